@@ -1,0 +1,4 @@
+pub mod Marks
+pub mod Cases
+pub mod Entries
+pub mod Pairs

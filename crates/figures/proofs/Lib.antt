@@ -1,0 +1,4 @@
+pub mod Cancel
+pub mod Laws
+pub mod Shares
+pub mod Years

@@ -1,0 +1,5 @@
+pub mod Quarter
+pub mod Year
+pub mod Sums
+pub mod Figures
+pub mod Laws
