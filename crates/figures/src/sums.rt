@@ -72,11 +72,9 @@ impl Sums {
         }
     }
 
-    /// The sums to which the entry was added to make these, or `None` where it was added to none.
-    /// Over the sums of a year: those of the year without the entry.
-    pub fn minus(self, e: Entry) -> Option<Sums>
-        ensures removed { λ r. ⌜ BySome r (Never-added e (self .totals)) (λ s. Before e (self .totals) (s .totals)) ⌝ }
-        ensures year { λ r. ⌜ ((p : Pairs) (q : ℕ) → self .totals ≡ year-totals p → q < most-quarters → p q ≡ Some e → BySome r ⊥ (λ s. s .totals ≡ year-totals (without p q))) ⌝ }
+    // The sums as they were before the entry was added.
+    fn taken_out(self, e: Entry) -> Option<Sums>
+        ensures { λ r. ⌜ BySome r (Never-added e (self .totals)) (λ s. with-entry (s .totals) e ≡ self .totals) ⌝ }
     {
         let part = Totals::of_entry(e);
         if self.totals.has_part(part) {
@@ -86,6 +84,15 @@ impl Sums {
         } else {
             None
         }
+    }
+
+    /// The sums to which the entry was added to make these, or `None` where it was added to none.
+    /// Over the sums of a year: those of the year without the entry.
+    pub fn minus(self, e: Entry) -> Option<Sums>
+        ensures removed { λ r. ⌜ BySome r (Never-added e (self .totals)) (λ s. Before e (self .totals) (s .totals)) ⌝ }
+        ensures year { λ r. ⌜ ((p : Pairs) (q : ℕ) → self .totals ≡ year-totals p → q < most-quarters → p q ≡ Some e → BySome r ⊥ (λ s. s .totals ≡ year-totals (without p q))) ⌝ }
+    {
+        self.taken_out(e)
     }
 
     /// The sums with `new` in the place of `old`, judged without `old`.
