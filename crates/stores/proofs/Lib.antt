@@ -1,0 +1,4 @@
+pub mod Tallies
+pub mod Puts
+mod Places
+mod Slips
