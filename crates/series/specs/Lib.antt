@@ -1,0 +1,9 @@
+pub mod Faults
+pub mod Limits
+pub mod Interval
+pub mod Register
+pub mod Layers
+pub mod FullList
+pub mod Changes
+pub mod Gaps
+pub mod Totals
