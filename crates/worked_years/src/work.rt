@@ -13,7 +13,7 @@ use figures::figures::Figures;
 use figures::sums::Sums;
 
 /// The sums of the entries, or the mark whose sum would pass its limit first.
-pub fn sum_up(postings: &[Posting]) -> Result<Sums, Mark>
+pub(crate) fn sum_up(postings: &[Posting]) -> Result<Sums, Mark>
     ensures summed { λ r. ⌜ Cases r (λ s. s .totals ≡ list-totals (now (postings .entry))) (λ m. Stops-at (now (postings .entry)) m) ⌝ }
     ensures year { λ r. ⌜ (apart (now (postings .entry)) ≡ true → Cases r (λ s. s .totals ≡ year-totals (pairs-of (now (postings .entry)))) (λ _. Unit {0})) ⌝ }
 {
@@ -25,7 +25,7 @@ pub fn sum_up(postings: &[Posting]) -> Result<Sums, Mark>
 }
 
 /// Whether every entry keeps the limits of the case.
-pub fn all_fit(case: Case, postings: &[Posting]) -> bool
+pub(crate) fn all_fit(case: Case, postings: &[Posting]) -> bool
     ensures { λ r. ⌜ r ≡ all-within case (now (postings .entry)) ⌝ }
 {
     for posting in postings {
@@ -37,7 +37,7 @@ pub fn all_fit(case: Case, postings: &[Posting]) -> bool
 }
 
 /// Whether the import is levied, nettable or lost to the last Wh.
-pub fn import_is_even(import: u64, figures: Figures) -> bool
+pub(crate) fn import_is_even(import: u64, figures: Figures) -> bool
     ensures { λ r. ⌜ Decides r (Import-even import figures) ⌝ }
 {
     i128::from(import)

@@ -74,15 +74,21 @@ fn zero_time(quarter: u64, readings: Readings) -> Posting
 }
 
 /// How many years are listed. The figures of each, by the formulas over its entries, are those worked by hand.
-pub fn years_listed() -> usize
+pub(crate) fn years_listed() -> usize
     ensures count { λ r. ⌜ r ≡ length listed-years ⌝ }
     ensures right { λ _. ⌜ Years-right ⌝ }
+{
+    list_length()
+}
+
+fn list_length() -> usize
+    ensures { λ r. ⌜ r ≡ length listed-years ⌝ }
 {
     8
 }
 
 /// The year with this number, from 0, or none past the last.
-pub fn worked_year(heap: Global, number: usize) -> Result<Option<WorkedYear>, AllocError>
+pub(crate) fn worked_year(heap: Global, number: usize) -> Result<Option<WorkedYear>, AllocError>
     ensures { λ r. ⌜ made r (λ y. Is-listed y (nth listed-years number)) ⌝ }
 {
     match number {

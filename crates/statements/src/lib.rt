@@ -1,0 +1,3 @@
+//! The yearly statement: its numbers, and the draft that is drawn of them.
+pub mod draft;
+pub mod statement;
