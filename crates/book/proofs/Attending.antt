@@ -31,9 +31,9 @@ use Rattle.book.specs.declared.refusal.Refusal.{Refusal}
 use Rattle.book.specs.declared.refusal.Refusal.the-variants.{Case, Year, Reach, Quarter, Reading, Value, Standing, Absent, Sum, Full, Series}
 use Rattle.book.specs.Calendar.{quarters}
 use Rattle.book.specs.Refusals.{refusal-number, refusal-values, told}
-use Rattle.book.specs.Sheet.{Sheet, Call, begin, post, amend, draw, Outcome, accepted, refused, drafted, statement, Told, Check, check, first-failing, checks, admitted, summable, standing, post-checks, amend-checks, effect, reply, written}
+use Rattle.book.specs.Sheet.{Sheet, Call, begin, post, amend, draw, Outcome, accepted, refused, drafted, statement, Told, Check, check, first-failing, checks, admitted, summable, standing, post-checks, amend-checks, effect, reply, written, blank}
 use Rattle.book.specs.Books.{sheet-of, In-order, Kept, Attends, outcome-of}
-use Rattle.book.specs.Steps.{Untouched, Stored, Unstored, Entered, Replaced, Exchanged, Started}
+use Rattle.book.specs.Steps.{Untouched, Stored, Unstored, Opened, Entered, Replaced, Exchanged, Started}
 use Rattle.book.proofs.Checks.{First, no-checks, met, fails, along, told-refused, told-accepted}
 use Rattle.book.proofs.Keeping.{never-some, no-mark-met, no-mark-fails, Admitted, is-admitted, quarters-within, written-in-order, beyond-reach, at-capacity, has-room, stood-never-full}
 use Rattle.book.proofs.Steps.{same-book}
@@ -197,3 +197,17 @@ started-attends m b b′ k y a e early late reach st case year =
         reached = leb-true (quarters y) (m .reach (b .store)) reach;
       },
     ))
+
+-- a book that was just opened stands as a blank sheet, and is kept
+pub opened-sheet : {S : Type 0} (m : Ghosts S) (store : S) (b : Book S) → Opened m store b → sheet-of m b ≡ blank (m .reach store) (m .capacity store)
+opened-sheet m store b o =
+    λ i. record { reach = o .reach i; capacity = o .capacity i; case = o .case i; year = o .year i; pairs = o .pairs i }
+
+pub opened-kept : {S : Type 0} (m : Ghosts S) (store : S) (b : Book S) → Opened m store b → Kept m b
+unfolding quarters
+opened-kept m store b o =
+    record {
+      sums = o .sums ∙ ap totals (sym (o .pairs));
+      within = λ q e stood. absurd (never-some e (sym stood ∙ ap (λ (p : Pairs). p q) (o .pairs)));
+      reached = omega (arith, ap quarters (o .year));
+    }

@@ -7,7 +7,7 @@ ghost use Rattle.book.specs.Sheet.{begin, post, amend, draw, drafted, blank, f
 ghost use Rattle.book.specs.Sources.{fetch-from};
 ghost use Rattle.book.specs.Books.{sheet-of, Kept, Attends, outcome-of};
 ghost use Rattle.book.specs.Runs.{Lawful};
-ghost use Rattle.book.specs.Steps.{Settled, Entered, Exchanged, Started};
+ghost use Rattle.book.specs.Steps.{Opened, Settled, Entered, Exchanged, Started};
 use crate::calendar::quarters_of;
 use crate::refusal::Refusal;
 use crate::refusal::RefusalFromSourceFault;
@@ -41,10 +41,17 @@ pub struct Book<S: Store> {
 impl<S: Store> Book<S> {
     /// A new book over a store, which it clears: case 1, and no year yet. Whatever calls follow, each with series of whatever types, they keep the law of
     /// runs.
-    pub fn new(mut store: S) -> Book<S>
+    pub fn new(store: S) -> Book<S>
         ensures sheet { λ r. ⌜ sheet-of S·Store r ≡ blank (S·Store .reach store) (S·Store .capacity store) ⌝ }
         ensures kept { λ r. ⌜ Kept S·Store r ⌝ }
         ensures lawful { λ r. ⌜ Lawful S·Store r (S·Store .reach store) (S·Store .capacity store) ⌝ }
+    {
+        Book::opened(store)
+    }
+
+    // A book without an entry, in no year.
+    fn opened(mut store: S) -> Book<S>
+        ensures { λ r. ⌜ Opened S·Store store r ⌝ }
     {
         store.clear();
         Book {
