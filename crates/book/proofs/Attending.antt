@@ -1,7 +1,7 @@
 -- What a call of the book has to show: at a refusal, and where it is accepted.
 use mathlib.Core.Path.{_≡_, refl, sym, ap, _∙_, subst}
 use mathlib.Core.Bool.{true, false, not}
-use mathlib.Core.List.{List, [], _∷_}
+use mathlib.Core.List.{List, []}
 use mathlib.Core.Logic.{_⊎_, ⊎-elim}
 use Prim.Native.Nat.{ℕ, _≤_, _<_}
 use native.Mathlib.Omega.{arith}
@@ -16,26 +16,24 @@ use Rattle.entries.specs.declared.case.Case.{Case as Kind}
 use Rattle.entries.specs.declared.case.Case.the-variants.{Storage}
 use Rattle.entries.specs.Cases.{case-numbered}
 use Rattle.entries.specs.declared.entry.Entry.{Entry}
-use Rattle.entries.specs.declared.readings.Mark.{Mark}
 use Rattle.entries.specs.Pairs.{Pairs, most-quarters, updated, without, tally}
 use Rattle.figures.specs.declared.totals.Totals.{Totals}
-use Rattle.figures.specs.Sums.{past, with-entry, Never-added}
+use Rattle.figures.specs.Sums.{past, with-entry}
 use Rattle.figures.specs.Year.{totals}
 use Rattle.figures.proofs.Years.{totals-added, totals-removed, totals-balanced}
 use Rattle.statements.specs.declared.statement.Statement.{Statement}
 use Rattle.statements.specs.Statements.{statement-of}
 use Rattle.stores.specs.declared.store.Store.{Ghosts}
-use Rattle.stores.specs.Puts.{put-refusal}
 use Rattle.book.specs.declared.book.Book.{Book}
 use Rattle.book.specs.declared.refusal.Refusal.{Refusal}
 use Rattle.book.specs.declared.refusal.Refusal.the-variants.{Case, Year, Reach, Quarter, Reading, Value, Standing, Absent, Sum, Full, Series}
 use Rattle.book.specs.Calendar.{quarters}
 use Rattle.book.specs.Refusals.{refusal-number, refusal-values, told}
-use Rattle.book.specs.Sheet.{Sheet, Call, begin, post, amend, draw, Outcome, accepted, refused, drafted, statement, Told, Check, check, first-failing, checks, admitted, summable, standing, post-checks, amend-checks, effect, reply, written, blank}
+use Rattle.book.specs.Sheet.{Sheet, Call, begin, post, amend, draw, accepted, refused, drafted, statement, Told, first-failing, checks, admitted, standing, effect, reply, written, blank}
 use Rattle.book.specs.Books.{sheet-of, In-order, Kept, Attends, outcome-of}
-use Rattle.book.specs.Steps.{Untouched, Stored, Unstored, Opened, Entered, Replaced, Exchanged, Started}
+use Rattle.book.specs.Steps.{Untouched, Stored, Unstored, Opened, Entered, Exchanged, Started}
 use Rattle.book.proofs.Checks.{First, no-checks, met, fails, along, told-refused, told-accepted}
-use Rattle.book.proofs.Keeping.{never-some, no-mark-met, no-mark-fails, Admitted, is-admitted, quarters-within, written-in-order, beyond-reach, at-capacity, has-room, stood-never-full}
+use Rattle.book.proofs.Keeping.{never-some, no-mark-met, no-mark-fails, is-admitted, quarters-within, written-in-order, beyond-reach, at-capacity, has-room, stood-never-full}
 use Rattle.book.proofs.Steps.{same-book}
 
 pub not-refused : (n : ℕ) (vs : List ℕ) → accepted ≡ refused n vs → ⊥

@@ -1,15 +1,15 @@
 -- A fetch: it stops at the first fault, and else does as a post.
 use mathlib.Core.Path.{_≡_, refl, sym, ap, _∙_, subst}
-use mathlib.Core.Bool.{Bool, true, false, cond}
-use mathlib.Core.List.{List, [], _∷_, _++_}
-use Prim.Native.Nat.{ℕ, _≤_, _<_}
+use mathlib.Core.Bool.{Bool, true, cond}
+use mathlib.Core.List.{List, []}
+use Prim.Native.Nat.{ℕ, _<_}
 use native.Mathlib.Omega.{arith}
 use lib.Dec.{ltb}
 use Rattle.std.specs.declared.option.Option.{Option}
-use Rattle.std.specs.declared.option.Option.the-variants.{Some, None}
+use Rattle.std.specs.declared.option.Option.the-variants.{Some}
 use Rattle.std.specs.declared.result.Result.{Result}
 use Rattle.std.specs.declared.result.Result.the-variants.{Ok, Err}
-use Rattle.std.proofs.shelf.Tests.{lt-ltb, le-ltb}
+use Rattle.std.proofs.shelf.Tests.{lt-ltb}
 use Rattle.entries.specs.declared.case.Case.{Case}
 use Rattle.entries.specs.declared.case.Case.the-variants.{Storage, ChargePoint, Both, BothMetered}
 use Rattle.entries.specs.declared.entry.Entry.{Entry}
@@ -19,15 +19,15 @@ use Rattle.series.specs.Limits.{Reading, Value}
 use Rattle.stores.specs.declared.store.Store.{Ghosts}
 use Rattle.book.specs.declared.book.Book.{Book}
 use Rattle.book.specs.declared.refusal.Refusal.{Refusal}
-use Rattle.book.specs.declared.refusal.Refusal.the-variants.{Quarter, Series}
+use Rattle.book.specs.declared.refusal.Refusal.the-variants.{Series}
 use Rattle.book.specs.declared.refusal.Source.{Source}
 use Rattle.book.specs.declared.refusal.Source.the-variants.{Values, First as Z1, Second as Z2, Third as Z3}
 use Rattle.book.specs.declared.refusal.SourceFault.{SourceFault}
 use Rattle.book.specs.Calendar.{quarters}
 use Rattle.book.specs.Refusals.{told}
-use Rattle.book.specs.Sheet.{Sheet, Call, fetch, post, Outcome, Told, outcome, after, answered, left-as, accepted, first-failing, checks, post-checks, fetched, written, entry-of}
-use Rattle.book.specs.Sources.{sourced, storage-reading, gathered}
-use Rattle.book.specs.Books.{sheet-of, Attends, Kept, outcome-of}
+use Rattle.book.specs.Sheet.{Sheet, Call, fetch, post, Outcome, Told, outcome, after, answered, left-as, accepted, first-failing, checks, post-checks, fetched, written}
+use Rattle.book.specs.Sources.{storage-reading, gathered}
+use Rattle.book.specs.Books.{sheet-of, Attends}
 use Rattle.book.proofs.Checks.{First, met, fails}
 
 abbrev refusal-of : SourceFault → Refusal

@@ -1,7 +1,7 @@
 -- The calls keep the book in order, and answer as the sheet does.
 use mathlib.Core.Path.{_≡_, refl, sym, ap, _∙_, subst}
 use mathlib.Core.Bool.{Bool, true, false, cond, not, _&&_}
-use mathlib.Core.List.{List, [], _∷_, _++_}
+use mathlib.Core.List.{List, [], _∷_}
 use mathlib.Core.Logic.{⊎-elim}
 use Prim.Native.Nat.{ℕ, _≤_, _<_, _%_}
 use native.Mathlib.Omega.{arith}
@@ -9,10 +9,7 @@ use lib.Dec.{eqb, leb, ltb}
 use Rattle.std.specs.Options.{isSome}
 use Rattle.std.specs.declared.option.Option.{Option}
 use Rattle.std.specs.declared.option.Option.the-variants.{Some, None}
-use Rattle.std.specs.declared.result.Result.{Result}
-use Rattle.std.specs.declared.result.Result.the-variants.{Ok, Err}
-use Rattle.std.proofs.shelf.Tests.{ltb-true, ltb-false, lt-ltb, le-leb, leb-true, eqb-true, ne-eqb, eq-eqb, cases-eq}
-use Rattle.entries.specs.declared.case.Case.{Case}
+use Rattle.std.proofs.shelf.Tests.{ltb-true, leb-true, eqb-true, eq-eqb, cases-eq}
 use Rattle.entries.specs.declared.entry.Entry.{Entry}
 use Rattle.entries.specs.declared.readings.Mark.{Mark}
 use Rattle.entries.specs.Marks.{mark-number}
@@ -20,12 +17,10 @@ use Rattle.entries.specs.Entries.{unfit-reading, value-over, within-limits}
 use Rattle.entries.specs.Pairs.{Pairs, most-quarters, updated, tally}
 use Rattle.entries.proofs.Totals.{with-at-here, with-at-elsewhere}
 use Rattle.figures.specs.declared.totals.Totals.{Totals}
-use Rattle.figures.specs.Sums.{past, with-entry, Added}
 use Rattle.figures.specs.Year.{totals}
-use Rattle.figures.proofs.Years.{totals-added}
 use Rattle.stores.specs.Puts.{put-refusal}
 use Rattle.book.specs.Calendar.{quarters}
-use Rattle.book.specs.Sheet.{Sheet, Check, check, no-mark, first-failing, in-year, admitted, standing, written}
+use Rattle.book.specs.Sheet.{Sheet, Check, check, no-mark, first-failing, admitted, written}
 use Rattle.book.specs.Books.{In-order}
 use Rattle.book.proofs.Checks.{First, met, fails}
 

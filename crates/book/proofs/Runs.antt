@@ -2,7 +2,7 @@
 use mathlib.Core.Path.{_≡_, refl, sym, ap, _∙_, subst}
 use mathlib.Core.Bool.{Bool, true, false, cond}
 use mathlib.Core.List.{List, [], _∷_, _++_, append-assoc}
-use mathlib.Core.Logic.{_⊎_, inl, inr, ⊎-elim}
+use mathlib.Core.Logic.{inl, inr}
 use Prim.Native.Nat.{ℕ, zero, suc, _<_}
 use native.Mathlib.Omega.{arith}
 use lib.Dec.{eqb}
@@ -12,7 +12,6 @@ use Rattle.std.specs.declared.option.Option.{Option}
 use Rattle.std.specs.declared.option.Option.the-variants.{Some, None}
 use Rattle.entries.specs.declared.case.Case.{Case}
 use Rattle.entries.specs.declared.entry.Entry.{Entry}
-use Rattle.entries.specs.Pairs.{Pairs, no-pairs}
 use Rattle.figures.specs.Year.{totals}
 use Rattle.figures.proofs.Laws.{feed-in-adds-up, import-adds-up}
 use Rattle.figures.proofs.Years.{totals-balanced}
@@ -20,7 +19,7 @@ use Rattle.stores.specs.declared.store.Store.{Ghosts}
 use Rattle.book.specs.declared.book.Book.{Book}
 use Rattle.book.specs.Sheet.{Sheet, Call, begin, post, amend, fetch, draw, Outcome, accepted, refused, drafted, blank, statement, fetched, first-failing, checks, reply, effect, answered, left-as, outcome, after}
 use Rattle.book.specs.Books.{sheet-of, Kept, Attends}
-use Rattle.book.specs.Runs.{outcomes, final, Adds-up, Done, pair-up, entered-at, Begins, Quiet, Last-entered, Fresh, Never-entered, Stands-by, Run-law, Chain, no-call, one-more}
+use Rattle.book.specs.Runs.{outcomes, final, Adds-up, Done, pair-up, entered-at, Begins, Quiet, Last-entered, Stands-by, Run-law, Chain, no-call, one-more}
 use Rattle.book.proofs.Attending.{not-refused}
 
 -- every draft adds up

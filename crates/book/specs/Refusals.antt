@@ -5,9 +5,7 @@ use Rattle.std.specs.declared.option.Option.{Option}
 use Rattle.std.specs.declared.option.Option.the-variants.{Some, None}
 use Rattle.std.specs.declared.result.Result.{Result}
 use Rattle.std.specs.declared.result.Result.the-variants.{Ok, Err}
-use Rattle.entries.specs.declared.readings.Mark.{Mark}
 use Rattle.entries.specs.Marks.{mark-number}
-use Rattle.series.specs.declared.fault.Fault.{Fault}
 use Rattle.series.specs.Faults.{cause-number}
 use Rattle.book.specs.declared.refusal.Source.{Source}
 use Rattle.book.specs.declared.refusal.Source.the-variants.{Values, First, Second, Third}

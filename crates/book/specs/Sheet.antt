@@ -3,7 +3,7 @@
 use mathlib.Core.Path.{_≡_}
 use mathlib.Core.Bool.{Bool, true, false, cond, not}
 use mathlib.Core.List.{List, [], _∷_, _++_}
-use Prim.Native.Nat.{ℕ, _≤_}
+use Prim.Native.Nat.{ℕ}
 use lib.Dec.{ltb, leb}
 use Rattle.std.specs.Options.{isSome, valueOr}
 use Rattle.std.specs.declared.option.Option.{Option}
@@ -18,7 +18,6 @@ use Rattle.entries.specs.Marks.{mark-number}
 use Rattle.entries.specs.Cases.{case-numbered}
 use Rattle.entries.specs.Entries.{unfit-reading, value-over}
 use Rattle.entries.specs.Pairs.{Pairs, no-pairs, updated, without, tally}
-use Rattle.figures.specs.declared.totals.Totals.{Totals}
 use Rattle.figures.specs.Year.{totals}
 use Rattle.figures.specs.Sums.{past}
 use Rattle.series.specs.declared.fault.Fault.{Fault}

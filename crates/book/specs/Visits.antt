@@ -1,5 +1,4 @@
 -- The calls that visits make, and what their answers say.
-use denote.Ref.{now}
 use Rattle.series.specs.declared.series.Meter as meters
 use Rattle.series.specs.declared.series.ValueList as lists
 use Rattle.book.specs.declared.visits.Visit.{Visit}

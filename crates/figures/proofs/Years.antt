@@ -1,15 +1,13 @@
 -- The sums of a year: what one quarter's change makes of them, and that they balance.
-use mathlib.Core.Path.{_≡_, refl, sym, _∙_, ap}
+use mathlib.Core.Path.{_≡_, ap}
 use mathlib.Core.Bool.{Bool, true, false, cond}
-use Prim.Native.Nat.{ℕ, _+_, _-_, _≤_, _<_}
+use Prim.Native.Nat.{ℕ, _+_, _-_, _<_}
 use native.Mathlib.Omega.{arith}
 use lib.Dec.{ltb}
-use Rattle.std.specs.declared.option.Option.{Option}
 use Rattle.std.specs.declared.option.Option.the-variants.{Some, None}
 use Rattle.entries.specs.declared.entry.Entry.{Entry}
 use Rattle.entries.specs.Pairs.{Pairs, most-quarters, no-pairs, updated, without, total}
 use Rattle.entries.proofs.Totals.{total-none, total-adds, total-le, total-added, total-replaced, total-removed}
-use Rattle.figures.specs.declared.totals.Totals.{Totals}
 use Rattle.figures.specs.Quarter.{grid-draw, stored-feed-in, plant-draw, direct-feed-in, in-paid, in-zero}
 use Rattle.figures.specs.Year.{gather, totals}
 use Rattle.figures.specs.Sums.{Balanced, none, with-entry}

@@ -1,5 +1,4 @@
 -- The figures of a year's statement, from the sums of the year.
-use mathlib.Core.Path.{_≡_}
 use Prim.Native.Nat.{ℕ, suc, _+_, _-_, _*_, _/_, _%_}
 use lib.IntN.{ℤ, pos, negsuc, negℤ, subℕ, _-ℤ_}
 use Rattle.entries.specs.declared.case.Case.{Case}

@@ -1,5 +1,4 @@
 //! A value list that keeps a number for each quarter.
-ghost use mathlib.Core.Path.{_≡_};
 ghost use Rattle.std.specs.Of.Vec.{vec-items};
 ghost use Rattle.std.specs.Results.{errPart};
 ghost use Rattle.series.specs.FullList.{full-value};

@@ -1,5 +1,4 @@
 //! A meter that keeps the energy of each quarter.
-ghost use mathlib.Core.Path.{_≡_};
 ghost use Rattle.std.specs.Of.Vec.{vec-items};
 ghost use Rattle.std.specs.Results.{errPart};
 ghost use Rattle.series.specs.Interval.{interval-reading};

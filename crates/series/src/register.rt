@@ -1,5 +1,4 @@
 //! A meter that keeps running counts, as they stood at the start of each quarter.
-ghost use mathlib.Core.Path.{_≡_};
 ghost use Rattle.std.specs.Of.Vec.{vec-items};
 ghost use Rattle.std.specs.Results.{errPart};
 ghost use Rattle.series.specs.Register.{register-reading};

@@ -1,5 +1,4 @@
 //! A layer that reads any two meters as one.
-ghost use mathlib.Core.Path.{_≡_};
 ghost use Rattle.std.specs.Results.{errPart};
 ghost use Rattle.series.specs.Layers.{summed};
 use crate::fault::Fault;

@@ -1,6 +1,5 @@
 //! A layer over any meter that stands behind a current transformer: what the meter reads is
 //! multiplied by a factor.
-ghost use mathlib.Core.Path.{_≡_};
 ghost use Rattle.std.specs.Results.{errPart};
 ghost use Rattle.series.specs.Layers.{scaled};
 use crate::fault::Cause;

@@ -3,13 +3,13 @@ use mathlib.Core.Path.{_≡_}
 use mathlib.Core.Bool.{Bool, true, false}
 use mathlib.Core.List.{List, [], _∷_}
 use Prim.Native.Nat.{ℕ}
-use lib.IntN.{ℤ, pos, negsuc}
+use lib.IntN.{pos, negsuc}
 use Rattle.std.specs.declared.option.Option.{Option}
 use Rattle.std.specs.declared.option.Option.the-variants.{Some, None}
 use Rattle.std.specs.Of.Vec.{vec-items}
 use Rattle.std.specs.shelf.Lists.{All}
 use Rattle.entries.specs.declared.case.Case.{Case}
-use Rattle.entries.specs.declared.case.Case.the-variants.{Storage, ChargePoint, Both, BothMetered}
+use Rattle.entries.specs.declared.case.Case.the-variants.{Storage, ChargePoint, BothMetered}
 use Rattle.entries.specs.declared.readings.Readings.{Readings}
 use Rattle.figures.specs.declared.figures.Figures.{Figures}
 use Rattle.figures.specs.Year.{totals}

@@ -1,11 +1,6 @@
-use borrow.Author.Needs.{needs}
-use mathlib.Core.Path.{_≡_, sym, ap, subst}
-use mathlib.Core.List.{List, [], map}
+use mathlib.Core.Path.{ap}
 use native.Mathlib.Omega.{arith}
-use Prim.Native.Nat.{ℕ}
 use lib.ListN.{length}
-use Rattle.book.specs.Sheet.{Outcome}
-use Rattle.book.specs.Runs.{Chain, no-call}
 use Rattle.book.specs.Visits.{call-of, outcome-in}
 use Rattle.book.proofs.Chains.{chain-none, chain-turn, chain-all}
 use Rattle.book.proofs.visits.attend_each.Needs as need

@@ -1,5 +1,5 @@
-use mathlib.Core.Path.{_≡_, refl, sym}
-use Prim.Native.Nat.{_*_, _/_, _≤_}
+use mathlib.Core.Path.{refl, sym}
+use Prim.Native.Nat.{_*_}
 use native.Mathlib.Nat.{div-le-of-le-mul, div-zero, mul-le-mul-right}
 use native.Mathlib.Omega.{arith}
 use Rattle.figures.specs.Figures.{share}

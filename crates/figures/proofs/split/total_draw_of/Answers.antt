@@ -1,4 +1,3 @@
-use borrow.Author.Needs.{needs}
 use native.Mathlib.Omega.{arith}
 use Rattle.figures.specs.Figures.{total-draw}
 use Rattle.figures.proofs.split.total_draw_of.Needs as need

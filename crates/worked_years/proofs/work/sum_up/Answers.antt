@@ -1,14 +1,14 @@
 use mathlib.Core.Path.{_≡_, sym, _∙_, ap}
 use mathlib.Core.List.{List, [], _∷_, _++_}
 use Prim.Native.Nat.{ℕ, _+_}
-use lib.ListN.{length, take, drop, getD}
+use lib.ListN.{take, drop, getD}
 use Rattle.std.specs.declared.option.Option.the-variants.{Some}
 use Rattle.std.proofs.shelf.Lists.{take-more, take-all, take-append-drop}
 use Rattle.std.proofs.shelf.Results.{err-from-errBy}
 use Rattle.figures.specs.declared.totals.Totals.{Totals}
 use Rattle.figures.specs.Sums.{with-entry, past}
 use Rattle.worked_years.specs.declared.years.Posting.{Posting}
-use Rattle.worked_years.specs.Postings.{list-totals, Stops-at}
+use Rattle.worked_years.specs.Postings.{list-totals}
 use Rattle.worked_years.proofs.Lists.{blank, drop-at, list-totals-push, year-of-list}
 use Rattle.worked_years.proofs.work.sum_up.Needs as need
 

@@ -1,12 +1,10 @@
-use mathlib.Core.Path.{_≡_, sym, ap, _∙_}
-use mathlib.Core.Bool.{Bool, true, false}
+use mathlib.Core.Path.{sym, ap, _∙_}
 use native.Mathlib.Omega.{arith}
 use Prim.Native.Nat.{ℕ}
 use lib.Dec.{leb}
 use Rattle.book.specs.declared.book.Book.{Book}
 use Rattle.book.specs.declared.refusal.Refusal.the-variants.{Case, Year, Reach}
 use Rattle.book.specs.Books.{sheet-of}
-use Rattle.book.specs.Calendar.{quarters}
 use Rattle.book.specs.Sheet.{begin}
 use Rattle.book.proofs.Attending.{attends-refused, begin-no-case, begin-no-year, begin-no-reach, started-attends}
 use Rattle.book.proofs.Steps.{untouched}

@@ -1,7 +1,6 @@
-use mathlib.Core.Path.{_≡_, refl, sym, _∙_, subst}
-use Prim.Native.Nat.{ℕ}
+use mathlib.Core.Path.{_≡_, subst}
 use Rattle.std.specs.declared.option.Option.the-variants.{Some}
-use Rattle.entries.specs.Pairs.{Pairs, without}
+use Rattle.entries.specs.Pairs.{without}
 use Rattle.figures.specs.declared.sums.ReplaceRefusal.{ReplaceRefusal}
 use Rattle.figures.specs.declared.sums.ReplaceRefusal.the-variants.{NotHeld, Over}
 use Rattle.figures.specs.Sums.{past}

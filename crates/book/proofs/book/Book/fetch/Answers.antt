@@ -1,10 +1,10 @@
 use mathlib.Core.Path.{_≡_, sym, ap, _∙_, subst}
 use native.Mathlib.Omega.{arith}
-use Prim.Native.Nat.{ℕ, _<_, _≤_}
+use Prim.Native.Nat.{ℕ}
 use Rattle.std.proofs.shelf.Results.{err-from-errBy}
 use Rattle.std.proofs.shelf.Tests.{lt-ltb, le-ltb}
 use Rattle.std.specs.declared.result.Result.{Result}
-use Rattle.std.specs.declared.result.Result.the-variants.{Ok, Err}
+use Rattle.std.specs.declared.result.Result.the-variants.{Err}
 use Rattle.book.specs.declared.book.Book.{Book}
 use Rattle.book.specs.declared.refusal.Refusal.{Refusal}
 use Rattle.book.specs.declared.refusal.Refusal.the-variants.{Quarter, Series}
@@ -12,7 +12,7 @@ use Rattle.book.specs.declared.refusal.SourceFault.{SourceFault}
 use Rattle.book.specs.Calendar.{quarters}
 use Rattle.book.specs.Sheet.{Call}
 use Rattle.book.specs.Sources.{fetch-from}
-use Rattle.book.specs.Books.{sheet-of, Attends, outcome-of}
+use Rattle.book.specs.Books.{Attends, outcome-of}
 use Rattle.book.proofs.Attending.{attends-refused}
 use Rattle.book.proofs.Checks.{fails}
 use Rattle.book.proofs.Fetching.{fault-first, fetched-attends}

@@ -1,4 +1,3 @@
-use Rattle.book.specs.Books.{sheet-of, Kept}
 use Rattle.book.proofs.Attending.{opened-sheet, opened-kept}
 use Rattle.book.proofs.Runs.{law-of-chain}
 use Rattle.book.proofs.book.Book.new.Needs as need

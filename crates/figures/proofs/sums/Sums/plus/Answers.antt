@@ -1,7 +1,6 @@
-use borrow.Author.Needs.{needs}
 use mathlib.Core.Path.{_≡_, sym, _∙_, ap}
 use Rattle.figures.specs.declared.totals.Totals.{Totals}
-use Rattle.figures.specs.Sums.{one, both, with-entry, past}
+use Rattle.figures.specs.Sums.{both, with-entry}
 use Rattle.figures.proofs.Years.{totals-added}
 use Rattle.figures.proofs.sums.Sums.plus.Needs as need
 

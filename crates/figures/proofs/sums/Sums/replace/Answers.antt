@@ -1,11 +1,10 @@
-use borrow.Author.Needs.{needs}
 use mathlib.Core.Path.{_≡_, sym, _∙_, ap}
 use Rattle.entries.specs.Pairs.{without}
 use Rattle.figures.specs.declared.totals.Totals.{Totals}
 use Rattle.figures.specs.Year.{totals}
-use Rattle.figures.specs.Sums.{one, both, with-entry, past, Before}
+use Rattle.figures.specs.Sums.{one, with-entry, past}
 use Rattle.figures.proofs.Cancel.{cancel}
-use Rattle.figures.proofs.Years.{totals-removed, totals-balanced, totals-replaced}
+use Rattle.figures.proofs.Years.{totals-replaced}
 use Rattle.figures.proofs.sums.Sums.replace.Needs as need
 
 pub returns-in-Ok : need.returns-in-Ok
