@@ -3,8 +3,8 @@ use Rattle.std.proofs.lemmas.Int.{ints}
 use Rattle.figures.proofs.Shares.{size_of_nonnegative}
 use Rattle.figures.proofs.split.left_of.Goals as goal
 
-pub returns_else_rest_lt0 : goal.returns_else_rest_lt0
-returns_else_rest_lt0 c =
+pub returns-else-rest-lt0 : goal.returns-else-rest-lt0
+returns-else-rest-lt0 c =
     let rest : ℤ = pos c.args.import -ℤ pos c.args.nettable -ℤ c.args.loss in
     let computed : to_z w64 (of_z w64 (to_z w64 (of_z w64 (to_z w64 c.args.import -ℤ to_z w64 c.args.nettable)) -ℤ to_z w64 (of_z w64 c.args.loss))) ≡ rest =
     omega (arith, ints) in

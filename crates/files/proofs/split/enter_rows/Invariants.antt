@@ -5,12 +5,12 @@ use Rattle.book.specs.Books.{sheet_of, Kept}
 use Rattle.files.specs.Endings.{rows_end}
 use Rattle.files.proofs.split.enter_rows.Given as goal
 
-abbrev pub invariant_loop_row : goal.invariant_loop_row
-invariant_loop_row g l =
+abbrev pub invariant-loop-row : goal.invariant-loop-row
+invariant-loop-row g l =
     Kept g.S.Store l.book
     × (l.before + length l.rest ≤ 3 + length l.text)
     × (rows_end (names l.columns) (sheet_of g.S.Store l.book) l.before (lines l.rest)
     ≡ rows_end (names l.columns) (sheet_of g.S.Store l.initial.book) 3 (lines l.text))
 
-abbrev pub decreases_loop_row : goal.decreases_loop_row
-decreases_loop_row g l = length l.rest
+abbrev pub decreases-loop-row : goal.decreases-loop-row
+decreases-loop-row g l = length l.rest

@@ -10,7 +10,7 @@ returns c =
     record {
       text =
           ap (take c.answer.result.length) c.answer.ensures.buffer
-          ∙ printed_text _ (replicate 400 0) c.print_printed.new.buffer c.print_printed.result c.answer.result.length refl c.print_printed.ensures c.answer.ensures.length
+          ∙ printed_text _ (replicate 400 0) c.print-printed.new.buffer c.print-printed.result c.answer.result.length refl c.print-printed.ensures c.answer.ensures.length
           ∙ ap (λ n. refusal_text n stop.line c.place.result) c.number.ensures
           ∙ ap (refusal_text (stopped_number stop.cause) stop.line) c.place.ensures;
       kind = c.answer.ensures.kind;

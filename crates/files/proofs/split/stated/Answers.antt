@@ -14,7 +14,7 @@ returns g c =
     record {
       text =
           ap (take c.answer.result.length) c.answer.ensures.buffer
-          ∙ printed_text _ (replicate 400 0) c.print_printed.new.buffer c.print_printed.result c.answer.result.length refl c.print_printed.ensures c.answer.ensures.length
+          ∙ printed_text _ (replicate 400 0) c.print-printed.new.buffer c.print-printed.result c.answer.result.length refl c.print-printed.ensures c.answer.ensures.length
           ∙ ap (λ d. text d None) same;
       kind = c.answer.ensures.kind;
     }

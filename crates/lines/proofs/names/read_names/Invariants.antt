@@ -4,12 +4,12 @@ use Rattle.lines.specs.Names.{all_different, columns_from}
 use Rattle.lines.proofs.Cuts.{turns}
 use Rattle.lines.proofs.names.read_names.Given as goal
 
-abbrev pub invariant_loop_rest : goal.invariant_loop_rest
-invariant_loop_rest l =
+abbrev pub invariant-loop-rest : goal.invariant-loop-rest
+invariant-loop-rest l =
     (l.count ≤ 8)
     × (length l.names ≡ 8)
     × (all_different (take l.count l.names) ≡ true)
     × (columns_from (take l.count l.names) (pieces 59 l.rest) ≡ columns_from [] (fields l.line))
 
-abbrev pub decreases_loop_rest : goal.decreases_loop_rest
-decreases_loop_rest l = turns l.rest
+abbrev pub decreases-loop-rest : goal.decreases-loop-rest
+decreases-loop-rest l = turns l.rest

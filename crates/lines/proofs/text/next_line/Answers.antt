@@ -4,32 +4,32 @@ use Rattle.lines.specs.Text.{pieces, Follows}
 use Rattle.lines.proofs.Cuts.{lines_more, lines_last, rest_shorter}
 use Rattle.lines.proofs.text.next_line.Goals as goal
 
-pub returns_then_is_empty : goal.returns_then_is_empty
-returns_then_is_empty c =
-    let none = nil_from_length c.args.text.now (true-eqb _ 0 c.if_is_empty.ensures) in
+pub returns-then-is-empty : goal.returns-then-is-empty
+returns-then-is-empty c =
+    let none = nil_from_length c.args.text.now (true-eqb _ 0 c.if-is-empty.ensures) in
     record { lines = none; bytes = none }
 
-pub returns_in_Some : goal.returns_in_Some
-returns_in_Some c =
+pub returns-in-Some : goal.returns-in-Some
+returns-in-Some c =
     let text : List ℕ = c.args.text.now in
-    let line : List ℕ = c.split_line.result.0.now in
-    let rest : List ℕ = c.in_Some.rest.now in
-    let whole : text ≡ line ++ (10 ∷ rest) = subst (Follows 10 text line) c.in_Some.is c.split_line.ensures.rest in
+    let line : List ℕ = c.split-line.result.0.now in
+    let rest : List ℕ = c.in-Some.rest.now in
+    let whole : text ≡ line ++ (10 ∷ rest) = subst (Follows 10 text line) c.in-Some.is c.split-line.ensures.rest in
     record {
       lines = (
-        lines_more text line rest (c.split_line.ensures.cuts ∙ ap (λ a. line ∷ pieces 10 a) c.in_Some.is),
+        lines_more text line rest (c.split-line.ensures.cuts ∙ ap (λ a. line ∷ pieces 10 a) c.in-Some.is),
         rest_shorter 10 text line rest whole,
       );
       bytes = inl whole;
     }
 
-pub returns_in_None : goal.returns_in_None
-returns_in_None c =
+pub returns-in-None : goal.returns-in-None
+returns-in-None c =
     let text : List ℕ = c.args.text.now in
-    let line : List ℕ = c.split_line.result.0.now in
-    let some : 0 < length text = omega (arith, false-eqb _ _ c.if_is_empty.ensures) in
-    let whole : line ≡ text = subst (Follows 10 text line) c.in_None.is c.split_line.ensures.rest in
+    let line : List ℕ = c.split-line.result.0.now in
+    let some : 0 < length text = omega (arith, false-eqb _ _ c.if-is-empty.ensures) in
+    let whole : line ≡ text = subst (Follows 10 text line) c.in-None.is c.split-line.ensures.rest in
     record {
-      lines = (lines_last text line some whole (c.split_line.ensures.cuts ∙ ap (λ a. line ∷ pieces 10 a) c.in_None.is), some);
+      lines = (lines_last text line some whole (c.split-line.ensures.cuts ∙ ap (λ a. line ∷ pieces 10 a) c.in-None.is), some);
       bytes = inr (sym whole, refl);
     }

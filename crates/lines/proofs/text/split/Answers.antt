@@ -2,11 +2,11 @@ use Rattle.std.proofs.Common.{refl}
 use Rattle.lines.proofs.Cuts.{cut_at, cut_all, text_at, lacks_more}
 use Rattle.lines.proofs.text.split.Goals as goal
 
-pub loop_i_preserved : goal.loop_i_preserved
-loop_i_preserved c = lacks_more _ _ _ c.loop_i_test.true c.loop_i.invariant c.if_b_at.false
+pub loop-i-preserved : goal.loop-i-preserved
+loop-i-preserved c = lacks_more _ _ _ c.loop-i-test.true c.loop-i.invariant c.if-b-at.false
 
-pub returns_then_b_at : goal.returns_then_b_at
-returns_then_b_at c = record { cuts = cut_at _ _ _ c.loop_i_test.true c.loop_i.invariant c.if_b_at.true; rest = text_at _ _ _ c.loop_i_test.true c.if_b_at.true }
+pub returns-then-b-at : goal.returns-then-b-at
+returns-then-b-at c = record { cuts = cut_at _ _ _ c.loop-i-test.true c.loop-i.invariant c.if-b-at.true; rest = text_at _ _ _ c.loop-i-test.true c.if-b-at.true }
 
 pub returns : goal.returns
-returns c = record { cuts = cut_all _ _ c.loop_i.i c.loop_i_test.false c.loop_i.invariant; rest = refl }
+returns c = record { cuts = cut_all _ _ c.loop-i.i c.loop-i-test.false c.loop-i.invariant; rest = refl }

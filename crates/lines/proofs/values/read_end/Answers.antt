@@ -10,5 +10,5 @@ too_many : (k : ℕ) (fs : List (List ℕ)) → 0 < length fs → ◌≡◌ {A =
 too_many k [] some = absurd (omega arith)
 too_many k (f ∷ fs) some = refl
 
-pub returns_in_Some : goal.returns_in_Some
-returns_in_Some c = too_many _ _ (cut_some 59 c.in_Some.field_0.now) ∙ ap (λ r. ends_with tt c.args.column (pieces 59 r)) (sym c.in_Some.is)
+pub returns-in-Some : goal.returns-in-Some
+returns-in-Some c = too_many _ _ (cut_some 59 c.in-Some.field-0.now) ∙ ap (λ r. ends_with tt c.args.column (pieces 59 r)) (sym c.in-Some.is)

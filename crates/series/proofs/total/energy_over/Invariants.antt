@@ -3,8 +3,8 @@ use Rattle.series.specs.Gaps.{Whole}
 use Rattle.series.specs.Totals.{energies, sum_from}
 use Rattle.series.proofs.total.energy_over.Given as goal
 
-abbrev pub invariant_loop_quarter : goal.invariant_loop_quarter
-invariant_loop_quarter g l =
+abbrev pub invariant-loop-quarter : goal.invariant-loop-quarter
+invariant-loop-quarter g l =
     let n = l.quarter - l.from in
     let readings = g.M.Meter.readings l.meter in
     Whole (g.M.Series.faults l.meter) l.from l.quarter

@@ -1,8 +1,8 @@
 use Rattle.std.proofs.Common.{refl}
 use Rattle.statements.proofs.print.names_end.Goals as goal
 
-pub returns_in_Some : goal.returns_in_Some
-returns_in_Some c = rw c.in_Some.is refl
+pub returns-in-Some : goal.returns-in-Some
+returns-in-Some c = rw c.in-Some.is refl
 
-pub returns_in_None : goal.returns_in_None
-returns_in_None c = rw c.in_None.is refl
+pub returns-in-None : goal.returns-in-None
+returns-in-None c = rw c.in-None.is refl

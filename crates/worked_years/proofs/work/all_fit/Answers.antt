@@ -13,17 +13,17 @@ at_front : (c : Case) (xs : List Posting) (i : ℕ) (b : Bool) → i < length xs
 at_front c xs i b h here inv =
     ap (λ b. b && all_within c (drop (i + 1) xs)) here ∙ sym (ap (all_within c) (drop_at xs i h)) ∙ inv
 
-pub returns_then_not_within_limits : goal.returns_then_not_within_limits
-returns_then_not_within_limits c =
-    at_front c.args.case c.args.postings.now c.loop_posting.posting_index false c.loop_posting_test.true
-    c.if_not_within_limits.ensures c.loop_posting.invariant
+pub returns-then-not-within-limits : goal.returns-then-not-within-limits
+returns-then-not-within-limits c =
+    at_front c.args.case c.args.postings.now c.loop-posting.posting-index false c.loop-posting-test.true
+    c.if-not-within-limits.ensures c.loop-posting.invariant
 
-pub loop_posting_preserved : goal.loop_posting_preserved
-loop_posting_preserved c =
-    at_front c.args.case c.args.postings.now c.loop_posting.posting_index true c.loop_posting_test.true
-    c.if_not_within_limits.ensures c.loop_posting.invariant
+pub loop-posting-preserved : goal.loop-posting-preserved
+loop-posting-preserved c =
+    at_front c.args.case c.args.postings.now c.loop-posting.posting-index true c.loop-posting-test.true
+    c.if-not-within-limits.ensures c.loop-posting.invariant
 
 pub returns : goal.returns
 returns c =
-    sym (ap (all_within c.args.case) (drop_all c.loop_posting.posting_index c.args.postings.now c.loop_posting_test.false))
-    ∙ c.loop_posting.invariant
+    sym (ap (all_within c.args.case) (drop_all c.loop-posting.posting-index c.args.postings.now c.loop-posting-test.false))
+    ∙ c.loop-posting.invariant

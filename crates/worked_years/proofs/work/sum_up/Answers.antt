@@ -8,29 +8,29 @@ use Rattle.worked_years.specs.Postings.{list_totals}
 use Rattle.worked_years.proofs.Lists.{blank, drop_at, list_totals_push, year_of_list}
 use Rattle.worked_years.proofs.work.sum_up.Goals as goal
 
-pub returns_in_err_sums : goal.returns_in_err_sums
-returns_in_err_sums c =
+pub returns-in-err-sums : goal.returns-in-err-sums
+returns-in-err-sums c =
     let xs : List Posting = c.args.postings.now in
-    let i : ℕ = c.loop_posting.posting_index in
-    let p = err_from_is_err_and c.from_residual.result c.from_residual.ensures.1 in
+    let i : ℕ = c.loop-posting.posting-index in
+    let p = err_from_is_err_and c.from-residual.result c.from-residual.ensures.1 in
     let split : xs ≡ take i xs ++ (get_or xs i blank ∷ drop (i + 1) xs) =
-    sym (take-append-drop i xs) ∙ ap (λ (ys : List Posting). take i xs ++ ys) (drop_at xs i c.loop_posting_test.true) in
-    let passed : past (list_totals (take i xs)) (get_or xs i blank).entry ≡ Some c.in_err_sums.field_0.0 =
-    ap (λ (t : Totals). past t (get_or xs i blank).entry) (sym c.loop_posting.invariant) ∙ c.in_err_sums.ensures.added in
+    sym (take-append-drop i xs) ∙ ap (λ (ys : List Posting). take i xs ++ ys) (drop_at xs i c.loop-posting-test.true) in
+    let passed : past (list_totals (take i xs)) (get_or xs i blank).entry ≡ Some c.in-err-sums.field-0.0 =
+    ap (λ (t : Totals). past t (get_or xs i blank).entry) (sym c.loop-posting.invariant) ∙ c.in-err-sums.ensures.added in
     rw (p.1, p.2) (record { summed = (take i xs, get_or xs i blank, drop (i + 1) xs, split, passed); year = λ _. tt })
 
-pub loop_posting_preserved : goal.loop_posting_preserved
-loop_posting_preserved c =
+pub loop-posting-preserved : goal.loop-posting-preserved
+loop-posting-preserved c =
     let xs : List Posting = c.args.postings.now in
-    let i : ℕ = c.loop_posting.posting_index in
-    let more : take (i + 1) xs ≡ take i xs ++ (get_or xs i blank ∷ []) = take_more xs i blank c.loop_posting_test.true in
-    c.in_ok_sums.ensures.added.1
-    ∙ ap (λ (t : Totals). with_entry t (get_or xs i blank).entry) c.loop_posting.invariant
+    let i : ℕ = c.loop-posting.posting-index in
+    let more : take (i + 1) xs ≡ take i xs ++ (get_or xs i blank ∷ []) = take_more xs i blank c.loop-posting-test.true in
+    c.in-ok-sums.ensures.added.1
+    ∙ ap (λ (t : Totals). with_entry t (get_or xs i blank).entry) c.loop-posting.invariant
     ∙ sym (list_totals_push (take i xs) (get_or xs i blank)) ∙ sym (ap list_totals more)
 
 pub returns : goal.returns
 returns c =
     let xs : List Posting = c.args.postings.now in
-    let all : take c.loop_posting.posting_index xs ≡ xs = take_all c.loop_posting.posting_index xs c.loop_posting_test.false in
-    let summed : c.loop_posting.sums.totals ≡ list_totals xs = c.loop_posting.invariant ∙ ap list_totals all in
+    let all : take c.loop-posting.posting-index xs ≡ xs = take_all c.loop-posting.posting-index xs c.loop-posting-test.false in
+    let summed : c.loop-posting.sums.totals ≡ list_totals xs = c.loop-posting.invariant ∙ ap list_totals all in
     record { summed = summed; year = λ apart. summed ∙ sym (year_of_list xs apart) }

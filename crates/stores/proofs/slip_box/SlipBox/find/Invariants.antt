@@ -3,5 +3,5 @@ use Rattle.stores.specs.Slips.{quarter_on}
 use Rattle.stores.proofs.slip_box.SlipBox.find.Given as goal
 
 -- none of the slips so far has the quarter
-abbrev pub invariant_loop_at : goal.invariant_loop_at
-invariant_loop_at l = (k : ℕ) → k < l.at → quarter_on (vec_items l.self.written) k ≡ Some l.quarter → ⊥
+abbrev pub invariant-loop-at : goal.invariant-loop-at
+invariant-loop-at l = (k : ℕ) → k < l.at → quarter_on (vec_items l.self.written) k ≡ Some l.quarter → ⊥
