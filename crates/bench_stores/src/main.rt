@@ -1,6 +1,8 @@
 //! Puts and looks in numbers, so that the instructions of one can be counted: bench/stores does that.
 //! Arguments: the make (year_table or slip_box), its number of places or slips, rounds of puts, rounds of looks.
 //! Each round goes once over as many quarters as the store can hold, spread over its reach.
+#![tactic(auto)]
+
 use entries::entry::Entry;
 use entries::readings::Readings;
 use std::{env, io};

@@ -1,4 +1,6 @@
 //! A year from its begin to a filed statement: the draft is confirmed by the grid operator's totals and filed under a number, with each refusal on the way.
+#![tactic(auto)]
+
 use anyhow::anyhow;
 use book::book::Book;
 use entries::entry::Entry;

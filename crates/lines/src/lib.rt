@@ -1,4 +1,6 @@
 //! Reads the lines of a text file of meter readings: its heading, the names of its columns, and its values.
+#![tactic(auto)]
+
 pub mod column;
 pub mod columns;
 pub mod misread;

@@ -1,4 +1,6 @@
 //! Meters and value lists of every make, and layers over any meters.
+#![tactic(auto)]
+
 pub mod change;
 pub mod full;
 pub mod interval;

@@ -1,4 +1,6 @@
 //! Reads an input of up to 1,000 entries from standard input, and writes its statement, or the first refusal, to standard output.
+#![tactic(auto)]
+
 use anyhow::anyhow;
 use files::split::split_text;
 use std::io::{Read, Write};

@@ -1,4 +1,6 @@
 //! Reads an input of up to a whole year from standard input, and writes its statement, or the first refusal, to standard output.
+#![tactic(auto)]
+
 use anyhow::anyhow;
 use entries::quarters::MOST_QUARTERS;
 use files::split::split_text;

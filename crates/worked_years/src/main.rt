@@ -1,4 +1,6 @@
 //! Works years that were worked by hand: from their entries through the sums to the figures, and compares.
+#![tactic(auto)]
+
 mod columns;
 mod work;
 mod years;
