@@ -27,6 +27,6 @@ pub returns : goal.returns
 returns c =
     let t : Totals = c.args.self.totals in
     record {
-      removed = removed_by t c.args.e c.taken-out.result c.taken-out.ensures;
-      year = year_by t c.args.e c.taken-out.result c.taken-out.ensures;
+      removed = removed_by t c.args.e c.taken_out.result c.taken_out.ensures;
+      year = year_by t c.args.e c.taken_out.result c.taken_out.ensures;
     }

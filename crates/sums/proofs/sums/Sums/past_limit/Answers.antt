@@ -42,8 +42,8 @@ unfolding past lowest_over
 returns c =
     let t : Totals = c.args.self.totals in
     let r : Readings = c.args.e.readings in
-    let mark : c.lowest-over.result ≡ past t c.args.e =
-    c.lowest-over.ensures
+    let mark : c.lowest_over.result ≡ past t c.args.e =
+    c.lowest_over.ensures
     ∙ ap (λ (l : Readings). lowest_over l r) c.room.ensures
     ∙ ap lowest (fun_ext (over_at t r c.args.self.limited)) in
-    record { mark = mark; within = by_cases t c.args.e c.lowest-over.result mark }
+    record { mark = mark; within = by_cases t c.args.e c.lowest_over.result mark }
