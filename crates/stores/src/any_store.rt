@@ -6,22 +6,22 @@ use crate::store::Store;
 
 /// Whether the store reaches over so many quarters: a year may begin only where it does.
 pub fn covers<S: Store>(store: &S, quarters: u64) -> bool
-    ensures { result ≡ nat_le quarters (reach store.now) }
+    ensures { result ≡ nat_le quarters (S.reach store.now) }
 {
     quarters <= store.reach()
 }
 
 /// Whether the quarter has a pair; if it has, it is below the reach.
 pub fn stands<S: Store>(store: &S, quarter: u64) -> bool
-    ensures value { result ≡ is_some (pairs store.now quarter) }
-    ensures below { result ≡ true → quarter < reach store.now }
+    ensures value { result ≡ is_some (Pairs store.now quarter) }
+    ensures below { result ≡ true → quarter < S.reach store.now }
 {
     store.look(quarter).is_some()
 }
 
-/// How many more pairs the store has room for.
+/// How many more Pairs the store has room for.
 pub fn spare<S: Store>(store: &S) -> u64
-    ensures { result + tally (pairs store.now) (reach store.now) ≡ capacity store.now }
+    ensures { result + tally (Pairs store.now) (reach store.now) ≡ capacity store.now }
 {
     store.capacity() - store.count()
 }

@@ -16,8 +16,8 @@ unfolding columns_in
 returns c =
     let line = c.args.line.now in
     record {
-      exact = c.columns-named.ensures;
-      told = told_of line c.columns-named.result c.columns-named.ensures;
+      exact = c.columns_named.ensures;
+      told = told_of line c.columns_named.result c.columns_named.ensures;
       only = λ ns n. columns_only line (Ok ns) n;
       first = λ k m. columns_only line (Err (Name k)) m;
       long = λ l. columns_only line (Err (Field 0)) (refl, l);

@@ -9,7 +9,7 @@ unfolding spelt
 returns c =
     let ns = names c.args.columns.now in
     let line = c.args.line.now in
-    let exact : c.entry-in.result ≡ spelt ns line = c.entry-in.ensures in
+    let exact : c.entry_in.result ≡ spelt ns line = c.entry_in.ensures in
     record {
       exact = exact;
       spells = subst (Tells ns line) (sym exact) (spelt_told ns line c.args.columns.now.distinct);

@@ -10,8 +10,8 @@ returns-in-err-value c =
 
 pub loop-column-preserved : goal.loop-column-preserved
 loop-column-preserved c =
-    let now = c.in-ok-value.ensures in
-    (omega arith, rw (c.with-amount-row.ensures, sym now.1) (fill_more _ c.loop-column.column-index c.args.columns.now _ _ _ c.loop-column.invariant.1 _ c.loop-column-test.true now.0))
+    let now = c.in_ok-value.ensures in
+    (omega arith, rw (c.with_amount-row.ensures, sym now.1) (fill_more _ c.loop-column.column-index c.args.columns.now _ _ _ c.loop-column.invariant.1 _ c.loop-column-test.true now.0))
 
 pub returns-in-err-read-end : goal.returns-in-err-read-end
 returns-in-err-read-end c =
@@ -19,4 +19,4 @@ returns-in-err-read-end c =
     p.1 ∙ ap (λ e. Err e) p.2 ∙ ends_like c.loop-column.row _ _ (Err c.in-err-read-end.field-0.0) c.in-err-read-end.ensures ∙ fill_ends _ c.loop-column.column-index c.args.columns.now _ _ _ c.loop-column.invariant.1 c.loop-column-test.false
 
 pub returns : goal.returns
-returns c = ends_like c.loop-column.row _ _ (Ok tt) c.in-ok-read-end.ensures ∙ fill_ends _ c.loop-column.column-index c.args.columns.now _ _ _ c.loop-column.invariant.1 c.loop-column-test.false
+returns c = ends_like c.loop-column.row _ _ (Ok tt) c.in_ok-read_end.ensures ∙ fill_ends _ c.loop-column.column-index c.args.columns.now _ _ _ c.loop-column.invariant.1 c.loop-column-test.false

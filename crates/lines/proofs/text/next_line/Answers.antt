@@ -12,12 +12,12 @@ returns-then-is-empty c =
 pub returns-in-Some : goal.returns-in-Some
 returns-in-Some c =
     let text : List ℕ = c.args.text.now in
-    let line : List ℕ = c.split-line.result.0.now in
+    let line : List ℕ = c.split_line.result.0.now in
     let rest : List ℕ = c.in-Some.rest.now in
-    let whole : text ≡ line ++ (10 ∷ rest) = subst (Follows 10 text line) c.in-Some.is c.split-line.ensures.rest in
+    let whole : text ≡ line ++ (10 ∷ rest) = subst (Follows 10 text line) c.in-Some.is c.split_line.ensures.rest in
     record {
       lines = (
-        lines_more text line rest (c.split-line.ensures.cuts ∙ ap (λ a. line ∷ pieces 10 a) c.in-Some.is),
+        lines_more text line rest (c.split_line.ensures.cuts ∙ ap (λ a. line ∷ pieces 10 a) c.in-Some.is),
         rest_shorter 10 text line rest whole,
       );
       bytes = inl whole;
@@ -26,10 +26,10 @@ returns-in-Some c =
 pub returns-in-None : goal.returns-in-None
 returns-in-None c =
     let text : List ℕ = c.args.text.now in
-    let line : List ℕ = c.split-line.result.0.now in
-    let some : 0 < length text = omega (arith, false-eqb _ _ c.if-is-empty.ensures) in
-    let whole : line ≡ text = subst (Follows 10 text line) c.in-None.is c.split-line.ensures.rest in
+    let line : List ℕ = c.split_line.result.0.now in
+    let some : 0 < length text = omega (arith, false-eqb _ _ c.if-is_empty.ensures) in
+    let whole : line ≡ text = subst (Follows 10 text line) c.in-None.is c.split_line.ensures.rest in
     record {
-      lines = (lines_last text line some whole (c.split-line.ensures.cuts ∙ ap (λ a. line ∷ pieces 10 a) c.in-None.is), some);
+      lines = (lines_last text line some whole (c.split_line.ensures.cuts ∙ ap (λ a. line ∷ pieces 10 a) c.in-None.is), some);
       bytes = inr (sym whole, refl);
     }

@@ -17,4 +17,4 @@ returns c =
     let long : vec_len v ≡ n = omega (arith, ap length all, length-replicate {A = Option Entry} n None) in
     let none : in_places (vec_items v) ≡ no_pairs = ap in_places all ∙ places_empty (replicate n None) (λ k h. get_or-replicate n k None None (omega (arith, length-replicate {A = Option Entry} n None))) in
     (long, none, tally_empty (in_places (vec_items v)) (vec_len v) none))
-    c.vec.ensures.exact
+    c.vec.ensures.items_if_clones_equal

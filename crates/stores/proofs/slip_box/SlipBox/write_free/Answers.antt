@@ -20,4 +20,4 @@ invariant-of-self c =
 pub returns : goal.returns
 returns c =
     let ss = vec_items c.args.self.now.written in
-    record { pairs = ap on_slips c.push-reserved.ensures.items ∙ slips_push ss c.args.slip c.requires.fresh; slips = refl }
+    record { pairs = ap on_slips c.push_reserved.ensures.items ∙ slips_push ss c.args.slip c.requires.fresh; slips = refl }

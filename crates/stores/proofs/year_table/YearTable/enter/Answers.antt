@@ -6,7 +6,7 @@ use Rattle.stores.specs.Tallies.{tally_le}
 use Rattle.stores.proofs.Places.{places_entered, places_counted, none_counts, some_counts}
 use Rattle.stores.proofs.Puts.{never_full}
 use Rattle.stores.proofs.year_table.YearTable.enter.Goals as goal
-use Rattle.stores.proofs.year_table.YearTable.enter.Goals.{then_is_none, else_is_none}
+use Rattle.stores.proofs.year_table.YearTable.enter.Goals.{then-is_none, else-is_none}
 
 pub overflow-add-standing : goal.overflow-add-standing
 overflow-add-standing c = omega (arith, tally_le (in_places (vec_items c.args.self.now.places)) (vec_len c.args.self.now.places))
@@ -20,8 +20,8 @@ invariant-of-self c =
     let after = places_counted xs q n c.args.entry c.requires (omega arith) in
     let was = ap (or_zero (λ _. 1)) (get_or_read_under xs q n old None c.index.ensures c.requires (omega arith)) in (
       elim c.if-is-none.branch [
-        | then_is_none w ↦ omega (arith, after, was, none_counts old w.if-is-none.ensures, w.standing-is)
-        | else_is_none w ↦ omega (arith, after, was, some_counts old w.if-is-none.ensures, w.standing-is)
+        | then-is_none w ↦ omega (arith, after, was, none_counts old w.if-is-none.ensures, w.standing-is)
+        | else-is_none w ↦ omega (arith, after, was, some_counts old w.if-is-none.ensures, w.standing-is)
       ],
       (omega arith, tt),
     )
