@@ -3,4 +3,4 @@ use Rattle.book.proofs.calendar.quarters_of.Goals as goal
 
 pub returns : goal.returns
 unfolding quarters
-returns c = c.count-of.ensures
+returns c = c.count_of.ensures

@@ -15,11 +15,11 @@ returns c =
       nettable = d.nettable i;
       loss = d.loss i;
       levied = d.levied i;
-      fund_direct = d.fund-direct i;
-      fund_stored = d.fund-stored i;
-      fund_all = d.fund-all i;
-      zero_direct = d.zero-direct i;
-      zero_stored = d.zero-stored i;
+      fund_direct = d.fund_direct i;
+      fund_stored = d.fund_stored i;
+      fund_all = d.fund_all i;
+      zero_direct = d.zero_direct i;
+      zero_stored = d.zero_stored i;
       foreign = d.foreign i;
       loose = d.loose i;
     } in

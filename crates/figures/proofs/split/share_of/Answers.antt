@@ -13,5 +13,5 @@ unfolding share
 returns-else-whole-eq0 c =
     record {
       value = refl;
-      bound = div-le_of_le-mul c.args.whole (mul-le-mul_right c.args.amount c.requires.part-within);
+      bound = div-le_of_le-mul c.args.whole (mul-le-mul_right c.args.amount c.requires.part_within);
     }

@@ -7,23 +7,23 @@ use Rattle.files.specs.Stops.{at_line}
 use Rattle.files.proofs.Ends.{read_goes_on, read_stops, no_lines, ends_as}
 use Rattle.files.proofs.split.enter_input.Goals as goal
 
-pub returns-in-default : goal.returns-in-default
+pub returns-in_default : goal.returns-in_default
 unfolding lines_end
-returns-in-default g c =
-    ap (lines_end (sheet_of g.S.Store c.args.book.now)) (no_lines c.args.input.now c.in-default.ensures.lines) ∙ sym c.lacking.ensures
+returns-in_default g c =
+    ap (lines_end (sheet_of g.S.Store c.args.book.now)) (no_lines c.args.input.now c.in_default.ensures.lines) ∙ sym c.lacking.ensures
 
-pub returns-in-err-read-at : goal.returns-in-err-read-at
+pub returns-in_err-read_at : goal.returns-in_err-read_at
 unfolding lines_end
-returns-in-err-read-at g c =
+returns-in_err-read_at g c =
     let line = c.in-Some.line.now in
-    let p = err_from_is_err_and c.from-residual.result c.from-residual.ensures.1 in
-    let stops = ap (at_line 1) (sym c.read-heading.ensures) ∙ sym c.read-at.ensures ∙ c.in-err-read-at.was in
-    rw (p.1, p.2) (ap (lines_end (sheet_of g.S.Store c.args.book.now)) c.in-Some.ensures.lines.0 ∙ read_stops 1 _ (heading_in line) c.in-err-read-at.field-0.0 stops)
+    let p = err_from_is_err_and c.from_residual.result c.from_residual.ensures.1 in
+    let stops = ap (at_line 1) (sym c.read_heading.ensures) ∙ sym c.read_at.ensures ∙ c.in_err-read_at.was in
+    rw (p.1, p.2) (ap (lines_end (sheet_of g.S.Store c.args.book.now)) c.in-Some.ensures.lines.0 ∙ read_stops 1 _ (heading_in line) c.in_err-read_at.field-0.0 stops)
 
 pub returns : goal.returns
 unfolding lines_end
 returns g c =
     let line = c.in-Some.line.now in
-    let reads = ap (at_line 1) (sym c.read-heading.ensures) ∙ sym c.read-at.ensures ∙ c.in-ok-read-at.was in
-    ends_as g.S.Store c.enter-year.result c.enter-year.new.book
-    (sym (ap (lines_end (sheet_of g.S.Store c.args.book.now)) c.in-Some.ensures.lines.0 ∙ read_goes_on 1 _ (heading_in line) _ reads)) c.enter-year.ensures
+    let reads = ap (at_line 1) (sym c.read_heading.ensures) ∙ sym c.read_at.ensures ∙ c.in_ok-read_at.was in
+    ends_as g.S.Store c.enter_year.result c.enter_year.new.book
+    (sym (ap (lines_end (sheet_of g.S.Store c.args.book.now)) c.in-Some.ensures.lines.0 ∙ read_goes_on 1 _ (heading_in line) _ reads)) c.enter_year.ensures

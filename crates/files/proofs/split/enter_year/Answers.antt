@@ -9,41 +9,41 @@ use Rattle.files.specs.Stops.{at_line}
 use Rattle.files.proofs.Ends.{read_goes_on, read_stops, call_goes_on, call_stops, no_lines, ends_as}
 use Rattle.files.proofs.split.enter_year.Goals as goal
 
-pub returns-in-default : goal.returns-in-default
+pub returns-in_default : goal.returns-in_default
 unfolding begin_end
-returns-in-default g c =
-    ap (begin_end (sheet_of g.S.Store c.args.book.now)) (no_lines c.args.text.now c.in-default.ensures.lines) ∙ sym c.lacking.ensures
+returns-in_default g c =
+    ap (begin_end (sheet_of g.S.Store c.args.book.now)) (no_lines c.args.text.now c.in_default.ensures.lines) ∙ sym c.lacking.ensures
 
-pub returns-in-err-case : goal.returns-in-err-case
+pub returns-in_err-case : goal.returns-in_err-case
 unfolding begin_end
-returns-in-err-case g c =
+returns-in_err-case g c =
     let line = c.in-Some.line.now in
-    let p = err_from_is_err_and c.from-residual.result c.from-residual.ensures.1 in
-    let stops = ap (at_line 2) (sym c.read-pair.ensures) ∙ sym c.read-at.ensures ∙ c.in-err-case.was in
-    rw (p.1, p.2) (ap (begin_end (sheet_of g.S.Store c.args.book.now)) c.in-Some.ensures.lines.0 ∙ read_stops 2 _ (pair_in line) c.in-err-case.field-0.0 stops)
+    let p = err_from_is_err_and c.from_residual.result c.from_residual.ensures.1 in
+    let stops = ap (at_line 2) (sym c.read_pair.ensures) ∙ sym c.read_at.ensures ∙ c.in_err-case.was in
+    rw (p.1, p.2) (ap (begin_end (sheet_of g.S.Store c.args.book.now)) c.in-Some.ensures.lines.0 ∙ read_stops 2 _ (pair_in line) c.in_err-case.field-0.0 stops)
 
-pub returns-in-err-answered-at : goal.returns-in-err-answered-at
+pub returns-in_err-answered_at : goal.returns-in_err-answered_at
 unfolding begin_end
-returns-in-err-answered-at g c =
+returns-in_err-answered_at g c =
     let line = c.in-Some.line.now in
     let book = c.args.book.now in
-    let pair : ℕ × ℕ = (c.in-ok-case.case, c.in-ok-case.year) in
-    let p = err_from_is_err_and c.from-residual-in-err-answered-at.result c.from-residual-in-err-answered-at.ensures.1 in
-    let reads = ap (at_line 2) (sym c.read-pair.ensures) ∙ sym c.read-at.ensures ∙ c.in-ok-case.was in
-    let stops = sym c.answered-at.ensures ∙ c.in-err-answered-at.was in
+    let pair : ℕ × ℕ = (c.in_ok-case.case, c.in_ok-case.year) in
+    let p = err_from_is_err_and c.from_residual-in_err-answered_at.result c.from_residual-in_err-answered_at.ensures.1 in
+    let reads = ap (at_line 2) (sym c.read_pair.ensures) ∙ sym c.read_at.ensures ∙ c.in_ok-case.was in
+    let stops = sym c.answered_at.ensures ∙ c.in_err-answered_at.was in
     rw (p.1, p.2)
     (ap (begin_end (sheet_of g.S.Store book)) c.in-Some.ensures.lines.0 ∙ read_goes_on 2 _ (pair_in line) pair reads
-    ∙ call_stops g.S.Store 2 book c.begin.new.self (begin pair.0 pair.1) c.requires.kept (λ t. names_end t (lines c.in-Some.rest.now)) c.begin.result c.in-err-answered-at.field-0.0 c.begin.ensures stops)
+    ∙ call_stops g.S.Store 2 book c.begin.new.self (begin pair.0 pair.1) c.requires.kept (λ t. names_end t (lines c.in-Some.rest.now)) c.begin.result c.in_err-answered_at.field-0.0 c.begin.ensures stops)
 
 pub returns : goal.returns
 unfolding begin_end
 returns g c =
     let line = c.in-Some.line.now in
     let book = c.args.book.now in
-    let pair : ℕ × ℕ = (c.in-ok-case.case, c.in-ok-case.year) in
-    let reads = ap (at_line 2) (sym c.read-pair.ensures) ∙ sym c.read-at.ensures ∙ c.in-ok-case.was in
-    let goes = sym c.answered-at.ensures ∙ c.in-ok-answered-at.was in
-    ends_as g.S.Store c.enter-named.result c.enter-named.new.book
+    let pair : ℕ × ℕ = (c.in_ok-case.case, c.in_ok-case.year) in
+    let reads = ap (at_line 2) (sym c.read_pair.ensures) ∙ sym c.read_at.ensures ∙ c.in_ok-case.was in
+    let goes = sym c.answered_at.ensures ∙ c.in_ok-answered_at.was in
+    ends_as g.S.Store c.enter_named.result c.enter_named.new.book
     (sym (ap (begin_end (sheet_of g.S.Store book)) c.in-Some.ensures.lines.0 ∙ read_goes_on 2 _ (pair_in line) pair reads
     ∙ call_goes_on g.S.Store 2 book c.begin.new.self (begin pair.0 pair.1) c.requires.kept (λ t. names_end t (lines c.in-Some.rest.now)) c.begin.result tt c.begin.ensures goes))
-    c.enter-named.ensures
+    c.enter_named.ensures

@@ -8,8 +8,8 @@ returns g c =
     let s : Sheet = blank (g.S.Store.reach c.args.store) (g.S.Store.capacity c.args.store) in
     let ls = lines c.args.input.now in
     record {
-      text = c.answer-input.ensures.text;
-      kind = c.answer-input.ensures.kind;
+      text = c.answer_input.ensures.text;
+      kind = c.answer_input.ensures.kind;
       lawful = ends_lawfully s ls;
       only = λ d. (stated_where_accepted s ls d).1;
     }

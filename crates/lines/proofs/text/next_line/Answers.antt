@@ -4,9 +4,9 @@ use Rattle.lines.specs.Text.{pieces, Follows}
 use Rattle.lines.proofs.Cuts.{lines_more, lines_last, rest_shorter}
 use Rattle.lines.proofs.text.next_line.Goals as goal
 
-pub returns-then-is-empty : goal.returns-then-is-empty
-returns-then-is-empty c =
-    let none = nil_from_length c.args.text.now (true-eqb _ 0 c.if-is-empty.ensures) in
+pub returns-then-is_empty : goal.returns-then-is_empty
+returns-then-is_empty c =
+    let none = nil_from_length c.args.text.now (true-eqb _ 0 c.if-is_empty.ensures) in
     record { lines = none; bytes = none }
 
 pub returns-in-Some : goal.returns-in-Some

@@ -4,13 +4,13 @@ use Rattle.series.specs.Totals.{energies}
 use Rattle.series.proofs.Spans.{lowest_here, whole_more, sum_more}
 use Rattle.series.proofs.total.energy_over.Goals as goal
 
-pub returns-in-err-more-taken : goal.returns-in-err-more-taken
-returns-in-err-more-taken g c =
-    let p = err_from_is_err_and c.from-residual.result c.from-residual.ensures.1 in
+pub returns-in_err-more_taken : goal.returns-in_err-more_taken
+returns-in_err-more_taken g c =
+    let p = err_from_is_err_and c.from_residual.result c.from_residual.ensures.1 in
     let q = c.loop-quarter.quarter in
     let faults = g.M.Series.faults c.args.meter.now in
     let named = g.met.M.Series.asked c.args.meter.now q in
-    let here : faults q ≡ Some c.in-err-more-taken.field-0.0 = search rules in
+    let here : faults q ≡ Some c.in_err-more_taken.field-0.0 = search rules in
     rw (p.1, p.2) (omega arith, lowest_here faults c.args.from c.args.to q _ named here (omega arith) (omega arith) c.loop-quarter.invariant.0)
 
 pub loop-quarter-preserved : goal.loop-quarter-preserved

@@ -9,16 +9,16 @@ both_lines : (s : Statement) (o : Option ℕ) → length (text s o) ≡ length (
 unfolding text
 both_lines s o = length-append (names_line o) (values_line s o)
 
-pub put-names-end-requires : goal.put-names-end-requires
-put-names-end-requires c =
+pub put_names-end-requires : goal.put_names-end-requires
+put_names-end-requires c =
     omega (arith, c.requires.room, both_lines c.args.s c.args.filed, text_fits c.args.s c.requires.sound (search rules) c.args.filed c.requires.filed)
 
-pub put-values-requires : goal.put-values-requires
-put-values-requires c =
-    omega (arith, c.requires.room, both_lines c.args.s c.args.filed, text_fits c.args.s c.requires.sound (search rules) c.args.filed c.requires.filed, c.put-names-end.ensures.ends, puts_length c.put-names-end.ensures)
+pub put_values-requires : goal.put_values-requires
+put_values-requires c =
+    omega (arith, c.requires.room, both_lines c.args.s c.args.filed, text_fits c.args.s c.requires.sound (search rules) c.args.filed c.requires.filed, c.put_names-end.ensures.ends, puts_length c.put_names-end.ensures)
 
 pub returns : goal.returns
 unfolding text
 returns c =
-    let done = puts_front (puts_more c.put-names-end.ensures c.put-values.ensures) in
+    let done = puts_front (puts_more c.put_names-end.ensures c.put_values.ensures) in
     (text_fits c.args.s c.requires.sound (search rules) c.args.filed c.requires.filed, done.0, done.1)

@@ -8,13 +8,13 @@ names_long : (o : Option ℕ) → length (names_line o) ≡ 117 + length (fields
 unfolding names_line
 names_long o = omega arith
 
-pub put-text-end-requires : goal.put-text-end-requires
-put-text-end-requires c = omega (arith, c.requires, names_long c.args.filed)
+pub put_text-end-requires : goal.put_text-end-requires
+put_text-end-requires c = omega (arith, c.requires, names_long c.args.filed)
 
-pub put-text-requires : goal.put-text-requires
-put-text-requires c =
-    omega (arith, c.requires, names_long c.args.filed, ap length c.names-end.ensures, c.put-text-end.ensures.ends, puts_length c.put-text-end.ensures)
+pub put_text-requires : goal.put_text-requires
+put_text-requires c =
+    omega (arith, c.requires, names_long c.args.filed, ap length c.names_end.ensures, c.put_text-end.ensures.ends, puts_length c.put_text-end.ensures)
 
 pub returns : goal.returns
 unfolding names_line
-returns c = puts_more c.put-text-end.ensures (puts_same c.names-end.ensures c.put-text.ensures)
+returns c = puts_more c.put_text-end.ensures (puts_same c.names_end.ensures c.put_text.ensures)

@@ -4,6 +4,6 @@ use Rattle.visits.proofs.run.attend_all.Goals as goal
 pub returns : goal.returns
 returns g c =
     record {
-      law = c.new-book.ensures.lawful c.attend-each.new.book _ _ c.attend-each.ensures;
-      kept = chain_kept g.S.Store c.attend-each.ensures c.new-book.ensures.kept;
+      law = c.new-book.ensures.lawful c.attend_each.new.book _ _ c.attend_each.ensures;
+      kept = chain_kept g.S.Store c.attend_each.ensures c.new-book.ensures.kept;
     }

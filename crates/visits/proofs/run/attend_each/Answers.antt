@@ -9,9 +9,9 @@ loop-visit-init g c = (omega arith, omega (arith, ap length c.requires.none, c.a
 pub loop-visit-preserved : goal.loop-visit-preserved
 loop-visit-preserved g c = (
   omega arith,
-  omega (arith, c.push-reserved.ensures.len, c.push-reserved.ensures.capacity, c.loop-visit.invariant.1),
+  omega (arith, c.push_reserved.ensures.len, c.push_reserved.ensures.capacity, c.loop-visit.invariant.1),
   chain_turn g.S.Store c.args.book.now (call_of g.V.ValueList g.A.Meter g.B.Meter g.C.Meter) outcome_in c.args.visits.now
-      c.loop-visit.visit-index c.visit-item.result (omega arith) c.visit-item.is _ _ c.attend.result c.push-reserved.ensures.items
+      c.loop-visit.visit-index c.visit-item.result (omega arith) c.visit-item.is _ _ c.attend.result c.push_reserved.ensures.items
       c.loop-visit.book c.attend.new.book c.loop-visit.invariant.2 c.attend.ensures,
 )
 

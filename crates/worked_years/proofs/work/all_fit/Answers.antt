@@ -13,15 +13,15 @@ at_front : (c : Case) (xs : List Posting) (i : ℕ) (b : Bool) → i < length xs
 at_front c xs i b h here inv =
     ap (λ b. b && all_within c (drop (i + 1) xs)) here ∙ sym (ap (all_within c) (drop_at xs i h)) ∙ inv
 
-pub returns-then-not-within-limits : goal.returns-then-not-within-limits
-returns-then-not-within-limits c =
+pub returns-then-not-within_limits : goal.returns-then-not-within_limits
+returns-then-not-within_limits c =
     at_front c.args.case c.args.postings.now c.loop-posting.posting-index false c.loop-posting-test.true
-    c.if-not-within-limits.ensures c.loop-posting.invariant
+    c.if-not-within_limits.ensures c.loop-posting.invariant
 
 pub loop-posting-preserved : goal.loop-posting-preserved
 loop-posting-preserved c =
     at_front c.args.case c.args.postings.now c.loop-posting.posting-index true c.loop-posting-test.true
-    c.if-not-within-limits.ensures c.loop-posting.invariant
+    c.if-not-within_limits.ensures c.loop-posting.invariant
 
 pub returns : goal.returns
 returns c =

@@ -5,5 +5,5 @@ pub returns : goal.returns
 returns g c =
     record {
       answer = drawn_attends g.S.Store c.args.self.now c.draft.result.statement c.draft.ensures.statement;
-      import_adds_up = c.draft.ensures.import-adds-up;
+      import_adds_up = c.draft.ensures.import_adds_up;
     }

@@ -3,8 +3,8 @@ use Rattle.entries.specs.Pairs.{most_quarters}
 use Rattle.stores.specs.SlipsLemmas.{once_from_test, test_from_once, slips_set, once_set}
 use Rattle.stores.proofs.slip_box.SlipBox.rewrite.Goals as goal
 
-pub invariant-of-self : goal.invariant-of-self
-invariant-of-self c =
+pub invariant_of-self : goal.invariant_of-self
+invariant_of-self c =
     let ss = vec_items c.args.self.now.written in
     let once = once_set most_quarters ss c.args.at c.args.slip (once_from_test most_quarters ss c.args.self.now.once) c.requires.same in
     (test_from_once most_quarters _ once, (omega arith, (omega arith, (omega arith, tt))))

@@ -4,16 +4,16 @@ use Rattle.stores.specs.Slips.{on_slips, one_each}
 use Rattle.stores.specs.SlipsLemmas.{once_from_test, test_from_once, slips_tally, slips_push, once_push}
 use Rattle.stores.proofs.slip_box.SlipBox.write_free.Goals as goal
 
-pub push-reserved-requires : goal.push-reserved-requires
-push-reserved-requires c =
+pub push_reserved-requires : goal.push_reserved-requires
+push_reserved-requires c =
     let ss = vec_items c.args.self.now.written in
     omega (arith, c.requires.free, slips_tally most_quarters ss (once_from_test most_quarters ss c.args.self.now.once))
 
-pub invariant-of-self : goal.invariant-of-self
-invariant-of-self c =
+pub invariant_of-self : goal.invariant_of-self
+invariant_of-self c =
     let ss = vec_items c.args.self.now.written in
     let once = once_push most_quarters ss c.args.slip (once_from_test most_quarters ss c.args.self.now.once) c.requires.fresh c.requires.within in (
-      ap (one_each most_quarters) c.push-reserved.ensures.items ∙ test_from_once most_quarters _ once,
+      ap (one_each most_quarters) c.push_reserved.ensures.items ∙ test_from_once most_quarters _ once,
       (omega (arith, c.requires.free, slips_tally most_quarters ss (once_from_test most_quarters ss c.args.self.now.once)), (omega arith, (omega arith, tt))),
     )
 
