@@ -48,6 +48,10 @@ pub slips_beyond : (n : ℕ) (ss : List Slip) (k : ℕ) → Once n ss → n ≤ 
 slips_beyond n [] k t h = refl
 slips_beyond n (s ∷ ss) k t h = with_at_elsewhere (on_slips ss) s.quarter (Some s.entry) k (λ e. omega arith) ∙ slips_beyond n ss k t.2 h
 
+-- no more pairs stand on the slips than there are slips, written and free
+pub slips_fit : (n : ℕ) (ss : List Slip) (slips : ℕ) → Once n ss → length ss ≤ slips → tally (on_slips ss) n ≤ slips
+slips_fit n ss slips t h = omega (arith, slips_tally n ss t)
+
 -- the quarter that is read from the slip at i
 pub quarter_read : (ss : List Slip) (i q : ℕ) (d : Slip) → i < length ss → (slice_index_or ss i d).quarter ≡ q → quarter_on ss i ≡ Some q
 quarter_read ss i q d h e = ap (option_map (λ s. s.quarter)) (slice_get-get_or ss i d h) ∙ ap Some e
@@ -79,7 +83,7 @@ pub slips_hit : (n : ℕ) (ss : List Slip) (i q : ℕ) → Once n ss → quarter
 slips_hit n [] i q t e = grind arith
 slips_hit n (s ∷ ss) zero q t e =
     let m : s.quarter ≡ q = cc in
-    sym (cond-true (q == s.quarter) (Some s.entry) (on_slips ss q) (eq-eqb q s.quarter (sym m)))
+    sym (cond-true (s.quarter == q) (Some s.entry) (on_slips ss q) (eq-eqb s.quarter q m))
 slips_hit n (s ∷ ss) (suc i) q t e =
     let r = slips_hit n ss i q t.2 e in
     r ∙ sym (with_at_elsewhere (on_slips ss) s.quarter (Some s.entry) q (λ m. apart n s ss i q t e r (sym m)))
@@ -90,7 +94,7 @@ slips_found n ss i q t h e =
     record { within = h; quarter = e; entry = r; stands = stands ss i q e r }
 
 -- changes at two quarters, in either order
-crossed : (k a b : ℕ) (x y o : Option Entry) → (a ≢ b) → cond (k == a) x (cond (k == b) y o) ≡ cond (k == b) y (cond (k == a) x o)
+crossed : (k a b : ℕ) (x y o : Option Entry) → (a ≢ b) → cond (a == k) x (cond (b == k) y o) ≡ cond (b == k) y (cond (a == k) x o)
 crossed k a b x y o ne = grind (arith, nat_tests)
 
 -- the slip at i written over with one of the same quarter
@@ -99,7 +103,7 @@ slips_set_at : (n : ℕ) (ss : List Slip) (i : ℕ) (w : Slip) → Once n ss →
 slips_set_at n [] i w t e k = grind arith
 slips_set_at n (s ∷ ss) zero w t e k = let m : s.quarter ≡ w.quarter = cc in grind (arith, nat_tests)
 slips_set_at n (s ∷ ss) (suc i) w t e k =
-    ap (λ o. cond (k == s.quarter) (Some s.entry) o) (slips_set_at n ss i w t.2 e k)
+    ap (λ o. cond (s.quarter == k) (Some s.entry) o) (slips_set_at n ss i w t.2 e k)
     ∙ crossed k s.quarter w.quarter (Some s.entry) (Some w.entry) (on_slips ss k) (apart n s ss i w.quarter t e (slips_hit n ss i w.quarter t.2 e))
 
 pub slips_set : (n : ℕ) (ss : List Slip) (i : ℕ) (w : Slip) → Once n ss → quarter_on ss i ≡ Some w.quarter
@@ -127,7 +131,7 @@ slips_push_at : (ss : List Slip) (w : Slip) → on_slips ss w.quarter ≡ None �
 slips_push_at [] w e k = refl
 slips_push_at (s ∷ ss) w e k =
     let p = none_parts s ss w.quarter e in
-    ap (λ o. cond (k == s.quarter) (Some s.entry) o) (slips_push_at ss w p.1 k)
+    ap (λ o. cond (s.quarter == k) (Some s.entry) o) (slips_push_at ss w p.1 k)
     ∙ crossed k s.quarter w.quarter (Some s.entry) (Some w.entry) (on_slips ss k) p.0
 
 pub slips_push : (ss : List Slip) (w : Slip) → on_slips ss w.quarter ≡ None → on_slips (ss ++ w ∷ []) ≡ updated (on_slips ss) w.quarter w.entry

@@ -13,15 +13,15 @@ pub fn covers<S: Store>(store: &S, quarters: u64) -> bool
 
 /// Whether the quarter has a pair; if it has, it is below the reach.
 pub fn stands<S: Store>(store: &S, quarter: u64) -> bool
-    ensures value { result ≡ is_some (Pairs store.now quarter) }
+    ensures value { result ≡ is_some (S.pairs store.now quarter) }
     ensures below { result ≡ true → quarter < S.reach store.now }
 {
     store.look(quarter).is_some()
 }
 
-/// How many more Pairs the store has room for.
+/// How many more pairs the store has room for.
 pub fn spare<S: Store>(store: &S) -> u64
-    ensures { result + tally (Pairs store.now) (reach store.now) ≡ capacity store.now }
+    ensures { result + tally (S.pairs store.now) (S.reach store.now) ≡ S.capacity store.now }
 {
     store.capacity() - store.count()
 }

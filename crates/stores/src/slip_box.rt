@@ -2,8 +2,8 @@
 ghost use Rattle.std.specs.Prelude.{◌≡◌, ◌<◌, ◌≤◌, true, Some, None, vec_len, vec_capacity, MatchOption, ◌≢◌};
 ghost use Rattle.entries.specs.Pairs.{most_quarters, updated, tally};
 ghost use Rattle.stores.specs.Slips.{on_slips, one_each, quarter_on, entry_on, Found};
-ghost use Rattle.stores.specs.SlipsLemmas.{once_from_test, slips_beyond, slips_tally};
-ghost use Rattle.std.proofs.Common.{arith};
+ghost use Rattle.stores.specs.SlipsLemmas.{once_from_test, slips_beyond, slips_fit};
+ghost use Rattle.std.proofs.Common.{subst};
 
 use crate::slip::Slip;
 use crate::store::{MOST_QUARTERS, PutRefusal, Store};
@@ -82,13 +82,9 @@ impl Store for SlipBox {
 
     ghost pairs = { λ b. on_slips b.written.items };
 
-    ghost beyond = { λ s quarter h.
-        let ss = s.written.items in
-        slips_beyond most_quarters ss quarter (once_from_test most_quarters ss s.once) h };
+    ghost beyond = { λ s quarter h. slips_beyond most_quarters s.written.items quarter (once_from_test most_quarters s.written.items s.once) h };
 
-    ghost fitting = { λ s.
-        let ss = s.written.items in
-        omega (arith, slips_tally most_quarters ss (once_from_test most_quarters ss s.once)) };
+    ghost fitting = { λ s. slips_fit most_quarters s.written.items s.slips (once_from_test most_quarters s.written.items s.once) (subst (λ n. n ≤ s.slips) s.written.ok.0 s.within) };
 
     fn clear(&mut self) {
         self.written.clear();

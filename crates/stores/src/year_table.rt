@@ -3,7 +3,7 @@ ghost use Rattle.std.specs.Prelude.{◌≡◌, ◌<◌, ◌≤◌, IfOk, None, v
 ghost use Rattle.entries.specs.Pairs.{most_quarters, no_pairs, updated, tally};
 ghost use Rattle.stores.specs.Places.{in_places};
 ghost use Rattle.stores.specs.Puts.{put_refusal};
-ghost use Rattle.std.proofs.Common.{arith};
+ghost use Rattle.std.proofs.Common.{subst};
 ghost use Rattle.std.proofs.lemmas.List.{get_or_past};
 ghost use Rattle.stores.specs.Tallies.{tally_le};
 
@@ -49,7 +49,7 @@ impl Store for YearTable {
 
     ghost pairs = { λ t. in_places t.places.items };
 
-    ghost beyond = { λ s quarter h. get_or_past s.places.items quarter None (omega arith) };
+    ghost beyond = { λ s quarter h. get_or_past s.places.items quarter None (subst (λ n. n ≤ quarter) s.places.ok.0 h) };
 
     ghost fitting = { λ s. tally_le (in_places s.places.items) (vec_len s.places) };
 

@@ -7,7 +7,7 @@ pub invariant_of-self : goal.invariant_of-self
 invariant_of-self c =
     let ss = vec_items c.args.self.now.written in
     let once = once_set most_quarters ss c.args.at c.args.slip (once_from_test most_quarters ss c.args.self.now.once) c.requires.same in
-    (test_from_once most_quarters _ once, (omega arith, (omega arith, (omega arith, tt))))
+    record { once = test_from_once most_quarters _ once; within = omega arith; reserved = omega arith; sized = omega arith }
 
 pub returns : goal.returns
 returns c =

@@ -12,10 +12,13 @@ push_reserved-requires c =
 pub invariant_of-self : goal.invariant_of-self
 invariant_of-self c =
     let ss = vec_items c.args.self.now.written in
-    let once = once_push most_quarters ss c.args.slip (once_from_test most_quarters ss c.args.self.now.once) c.requires.fresh c.requires.within in (
-      ap (one_each most_quarters) c.push_reserved.ensures.items ∙ test_from_once most_quarters _ once,
-      (omega (arith, c.requires.free, slips_tally most_quarters ss (once_from_test most_quarters ss c.args.self.now.once)), (omega arith, (omega arith, tt))),
-    )
+    let once = once_push most_quarters ss c.args.slip (once_from_test most_quarters ss c.args.self.now.once) c.requires.fresh c.requires.within in
+    record {
+      once = ap (one_each most_quarters) c.push_reserved.ensures.items ∙ test_from_once most_quarters _ once;
+      within = omega (arith, c.requires.free, slips_tally most_quarters ss (once_from_test most_quarters ss c.args.self.now.once));
+      reserved = omega arith;
+      sized = omega arith;
+    }
 
 pub returns : goal.returns
 returns c =

@@ -18,13 +18,14 @@ invariant_of-self c =
     let q = c.args.quarter in
     let old = c.index.result.now in
     let after = places_counted xs q n c.args.entry c.requires (omega arith) in
-    let was = ap (or_zero (λ _. 1)) (get_or_read_under xs q n old None c.index.ensures c.requires (omega arith)) in (
-      elim c.if-is_none.branch [
+    let was = ap (or_zero (λ _. 1)) (get_or_read_under xs q n old None c.index.ensures c.requires (omega arith)) in
+    record {
+      counted = elim c.if-is_none.branch [
         | then-is_none w ↦ omega (arith, after, was, none_counts old w.if-is_none.ensures, w.standing-is)
         | else-is_none w ↦ omega (arith, after, was, some_counts old w.if-is_none.ensures, w.standing-is)
-      ],
-      (omega arith, tt),
-    )
+      ];
+      sized = omega arith;
+    }
 
 pub returns : goal.returns
 returns c =
