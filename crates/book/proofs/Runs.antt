@@ -1,6 +1,7 @@
 -- The law of runs.
 use Rattle.std.proofs.Common.{◌≡◌, ℕ, zero, suc, ◌<◌, Bool, true, false, cond, eqb, List, [], ◌∷◌, ◌++◌, length, get_or, take, Some, None, Option, sym, refl, ap, ◌∙◌, subst, inl, inr, append_assoc, arith}
-use Rattle.std.specs.List.{AllByRecursion as All}
+use Rattle.std.proofs.lemmas.Bool.Decides.{nat_tests}
+use Rattle.std.specs.List.{AllByRecursion}
 use Rattle.entries.specs.declared.case.Case.{Case}
 use Rattle.entries.specs.declared.entry.Entry.{Entry}
 use Rattle.sums.specs.Year.{totals}
@@ -23,7 +24,7 @@ adds_up_by None s draw =
     (feed_in_adds_up s.case (totals s.pairs) (totals_balanced s.pairs), import_adds_up s.case (totals s.pairs) (totals_balanced s.pairs))
 adds_up_by (Some x) s c = tt
 
-all_add_up : (s : Sheet) (cs : List Call) → All AddsUp (outcomes s cs)
+all_add_up : (s : Sheet) (cs : List Call) → AllByRecursion AddsUp (outcomes s cs)
 unfolding outcome outcomes
 all_add_up s [] = tt
 all_add_up s (c ∷ cs) = (adds_up_by (first_failing (checks s c)) s c, all_add_up (after s c) cs)
@@ -57,12 +58,15 @@ drafted_quiet : (c : Case) (q : ℕ) (s : Sheet) → drafted (statement s) ≡ a
 drafted_quiet c q s e = ((λ x. x), refl)
 
 -- an accepted call that writes e down at k, seen at q
+turned : (a b : ℕ) → eqb a b ≡ eqb b a
+turned a b = grind (arith, nat_tests)
+
 module _ (q : ℕ) (s t : Sheet) (call : Call) (done : List Done) (k : ℕ) (e : Entry) where
   wrote : (not_begin : Begins call → ⊥) → ((c : Case) → c ≡ s.case → entered_at c q call ≡ cond (eqb q k) (Some e) None)
-      → (b : Bool) → eqb q k ≡ b → Quiet t.case q done → t.pairs q ≡ cond (eqb q k) (Some e) (s.pairs q) → t.case ≡ s.case
+      → (b : Bool) → eqb q k ≡ b → Quiet t.case q done → t.pairs q ≡ cond (eqb k q) (Some e) (s.pairs q) → t.case ≡ s.case
       → Traced q s t (record { call = call; answer = accepted } ∷ done)
   wrote nb at true is quiet pairs case =
-      entered e (pairs ∙ ap (λ (x : Bool). cond x (Some e) (s.pairs q)) is)
+      entered e (pairs ∙ ap (λ (x : Bool). cond x (Some e) (s.pairs q)) (turned k q ∙ is))
       (record {
         before = [];
         call = call;
@@ -73,7 +77,7 @@ module _ (q : ℕ) (s t : Sheet) (call : Call) (done : List Done) (k : ℕ) (e :
       })
   wrote nb at false is quiet pairs case =
       untouched ((λ _. (nb, at t.case case ∙ ap (λ (x : Bool). cond x (Some e) None) is)), quiet)
-      (pairs ∙ ap (λ (x : Bool). cond x (Some e) (s.pairs q)) is) case
+      (pairs ∙ ap (λ (x : Bool). cond x (Some e) (s.pairs q)) (turned k q ∙ is)) case
 
 step : (q : ℕ) (s t : Sheet) (done : List Done) (c : Call) (r : Option (ℕ × List ℕ)) → Traced q (left_as r (effect s c) s) t done
     → Traced q s t (record { call = c; answer = answered r (reply s c) } ∷ done)

@@ -1,6 +1,6 @@
 -- Runs of calls, and the law that holds of every run.
 use Rattle.std.specs.Prelude.{◌≡◌, ℕ, ◌<◌, cond, ◌⊎◌, List, [], ◌∷◌, ◌++◌, length, take, Some, None, Option, ◌==◌, slice_index_or}
-use Rattle.std.specs.List.{AllByRecursion as All}
+use Rattle.std.specs.List.{AllByRecursion}
 use Rattle.entries.specs.declared.case.Case.{Case}
 use Rattle.entries.specs.declared.entry.Entry.{Entry}
 use Rattle.figures.specs.Laws.{FeedInAddsUp, ImportAddsUp}
@@ -54,7 +54,7 @@ Begins draw = ⊥
 
 -- an accepted call among these neither begins a year nor enters the quarter q
 abbrev pub Quiet : Case → ℕ → List Done → Type 0
-Quiet c q done = All (λ x. x.answer ≡ accepted → (Begins x.call → ⊥) × (entered_at c q x.call ≡ None)) done
+Quiet c q done = AllByRecursion (λ x. x.answer ≡ accepted → (Begins x.call → ⊥) × (entered_at c q x.call ≡ None)) done
 
 -- e is the entry of the last accepted post, fetch or amend of the quarter q since the last accepted begin
 pub record LastEntered (c : Case) (q : ℕ) (done : List Done) (e : Entry) : Type 0 where
@@ -89,7 +89,7 @@ pub record RunLaw (s : Sheet) (cs : List Call) (os : List Outcome) (t : Sheet) :
   pub answers : os ≡ outcomes s cs
   pub places : (i : ℕ) → i < length cs → slice_index_or os i accepted ≡ outcome (final s (take i cs)) (slice_index_or cs i draw)
   pub sheet : t ≡ final s cs
-  pub drafts : All AddsUp os
+  pub drafts : AllByRecursion AddsUp os
   pub stands : (q : ℕ) → StandsBy t.case q (pair_up cs os) (t.pairs q)
 
 -- a chain of single calls on a book, each with series of its own types

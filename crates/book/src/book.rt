@@ -180,7 +180,7 @@ impl<S: Store> Book<S> {
         quarter: u64,
         sources: &Sources<'_, V, A, B, C>,
     ) -> Result<(), Refusal>
-        ensures { Attends S.Store self.old (fetch_from V.ValueList A.Meter B.Meter C.Meter sources.now quarter) (outcome_of result) self.new }
+        ensures { Attends S.Store self.old (fetch_from V.ValueList.own A.Meter.own B.Meter.own C.Meter.own sources.now quarter) (outcome_of result) self.new }
     {
         if quarter >= quarters_of(self.year) {
             return Err(Refusal::Quarter);

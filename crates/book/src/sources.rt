@@ -44,7 +44,7 @@ pub fn gather<V: ValueList, A: Meter, B: Meter, C: Meter>(
     quarter: u64,
     sources: &Sources<'_, V, A, B, C>,
 ) -> Result<Entry, SourceFault>
-    ensures { result ≡ gathered_from V.ValueList A.Meter B.Meter C.Meter case sources.now quarter }
+    ensures { result ≡ gathered_from V.ValueList.own A.Meter.own B.Meter.own C.Meter.own case sources.now quarter }
 {
     let value = from_source(Source::Values, sources.values.value(quarter))?;
     let (import, feed_in) = from_source(Source::First, sources.first.read(quarter))?;

@@ -1,6 +1,6 @@
 -- The laws of how an input ends.
 use Rattle.std.proofs.Common.{◌≡◌, ℕ, suc, ◌+◌, ◌-◌, ◌<◌, ◌≤◌, ◌⊎◌, List, [], ◌∷◌, ◌++◌, map, length, get_or, take, Some, None, Ok, Err, Option, Result, sym, refl, ap, ◌∙◌, subst, inl, inr, append-nil, arith, length-take}
-use Rattle.std.specs.List.{AllByRecursion as All}
+use Rattle.std.specs.List.{AllByRecursion}
 use Rattle.std.proofs.lemmas.List.{take_more, take_all}
 use Rattle.entries.specs.declared.entry.Entry.{Entry}
 use Rattle.lines.specs.declared.column.Column.{Column}
@@ -44,7 +44,7 @@ call_on n next s c is = ap (λ o. answered_then n o (next (after s c))) is
 record Entered (ns : List Column) (s : Sheet) (ls : List (List ℕ)) (d : Statement) : Type 0 where
   entries : List (ℕ × Entry)
   spells : map (spelt ns) ls ≡ map Ok entries
-  accepts : All (λ o. o ≡ accepted) (outcomes s (posts_of entries))
+  accepts : AllByRecursion (λ o. o ≡ accepted) (outcomes s (posts_of entries))
   states : d ≡ statement (final s (posts_of entries))
 
 -- where lines of values end with a statement, they are accepted, and the other way round
@@ -65,7 +65,7 @@ rows_stated ns s n (l ∷ ls) d h =
       states = rest.states;
     }
 
-rows_accepted : (ns : List Column) (s : Sheet) (n : ℕ) (ls : List (List ℕ)) (es : List (ℕ × Entry)) → map (spelt ns) ls ≡ map Ok es → All (λ o. o ≡ accepted) (outcomes s (posts_of es))
+rows_accepted : (ns : List Column) (s : Sheet) (n : ℕ) (ls : List (List ℕ)) (es : List (ℕ × Entry)) → map (spelt ns) ls ≡ map Ok es → AllByRecursion (λ o. o ≡ accepted) (outcomes s (posts_of es))
     → (more : List (List ℕ)) → rows_end ns s n (ls ++ more) ≡ rows_end ns (final s (posts_of es)) (n + length ls) more
 unfolding rows_end outcomes final
 rows_accepted ns s n [] [] h a more = let same : n ≡ n + 0 = omega arith in ap (λ m. rows_end ns s m more) same

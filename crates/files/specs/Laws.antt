@@ -1,6 +1,6 @@
 -- The laws of how an input ends: a statement comes just where every line is accepted, and the first refusal ends the input.
 use Rattle.std.specs.Prelude.{◌≡◌, ℕ, ◌+◌, ◌-◌, ◌<◌, ◌≤◌, ◌⊎◌, List, [], ◌∷◌, ◌++◌, map, length, take, Ok, Err, Result, slice_index_or}
-use Rattle.std.specs.List.{AllByRecursion as All}
+use Rattle.std.specs.List.{AllByRecursion}
 use Rattle.entries.specs.declared.entry.Entry.{Entry}
 use Rattle.lines.specs.declared.column.Column.{Column}
 use Rattle.lines.specs.declared.misread.Misread.{Misread}
@@ -37,7 +37,7 @@ pub record Accepted (s : Sheet) (ls : List (List ℕ)) (d : Statement) : Type 0 
   pub named : columns_in names ≡ Ok columns
   pub entries : List (ℕ × Entry)
   pub spells : map (spelt columns) rows ≡ map Ok entries
-  pub accepts : All (λ o. o ≡ accepted) (outcomes s (calls_of year entries))
+  pub accepts : AllByRecursion (λ o. o ≡ accepted) (outcomes s (calls_of year entries))
   pub states : d ≡ statement (final s (calls_of year entries))
 
 -- what is read of a line is an error of the number k, with its column beside it

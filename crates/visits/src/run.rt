@@ -64,7 +64,7 @@ pub fn attend<S: Store, V: ValueList, A: Meter, B: Meter, C: Meter>(
     book: &mut Book<S>,
     visit: &Visit<'_, V, A, B, C>,
 ) -> Answer
-    ensures { Attends S.Store book.old (call_of V.ValueList A.Meter B.Meter C.Meter visit.now) (outcome_in result) book.new }
+    ensures { Attends S.Store book.old (call_of V.ValueList.own A.Meter.own B.Meter.own C.Meter.own visit.now) (outcome_in result) book.new }
 {
     match visit {
         Visit::Begin(case, year) => answer_of(book.begin(*case, *year)),
@@ -91,7 +91,7 @@ fn attend_each<S: Store, V: ValueList, A: Meter, B: Meter, C: Meter>(
 )
     requires room { length visits.now ≤ vec_capacity answers.old }
     requires none { answers.old.items ≡ [] }
-    ensures { Chain S.Store book.old (map (call_of V.ValueList A.Meter B.Meter C.Meter) visits.now) (map outcome_in answers.new.items) book.new }
+    ensures { Chain S.Store book.old (map (call_of V.ValueList.own A.Meter.own B.Meter.own C.Meter.own) visits.now) (map outcome_in answers.new.items) book.new }
 {
     for visit in visits {
         answers.push_reserved(attend(book, visit));
@@ -106,7 +106,7 @@ pub fn attend_all<S: Store, V: ValueList, A: Meter, B: Meter, C: Meter>(
     store: S,
     visits: &[Visit<'_, V, A, B, C>],
 ) -> Result<Attended<S>, NoMemory<S>>
-    ensures law { MatchResult result (λ d. RunLaw (blank (S.Store.reach store) (S.Store.capacity store)) (map (call_of V.ValueList A.Meter B.Meter C.Meter) visits.now) (map outcome_in d.answers.items) (sheet_of S.Store d.book)) (λ e. e.store ≡ store) }
+    ensures law { MatchResult result (λ d. RunLaw (blank (S.Store.reach store) (S.Store.capacity store)) (map (call_of V.ValueList.own A.Meter.own B.Meter.own C.Meter.own) visits.now) (map outcome_in d.answers.items) (sheet_of S.Store d.book)) (λ e. e.store ≡ store) }
     ensures kept { IfOk result (λ d. Kept S.Store d.book) }
 {
     let Ok(mut answers) = Vec::with_capacity(heap, visits.len()) else {

@@ -1,6 +1,6 @@
 -- The listed years are right: one test that is computed over the whole list, and one proof that what passes it is right.
 use Rattle.std.proofs.Common.{◌≡◌, ℕ, Bool, true, false, not, ◌&&◌, eqb, List, [], ◌∷◌, ℤ, pos, negsuc, ◌+ℤ◌, sym, refl, ap, ◌∙◌, subst, arith}
-use Rattle.std.specs.List.{AllByRecursion as All}
+use Rattle.std.specs.List.{AllByRecursion}
 use Rattle.std.proofs.lemmas.Bool.{and_parts, eqb-true, eq-eqb}
 use Rattle.figures.specs.declared.figures.Figures.{Figures}
 use Rattle.sums.specs.declared.totals.Totals.{Totals}
@@ -104,7 +104,7 @@ abbrev all_pass : List Listed → Bool
 all_pass [] = true
 all_pass (l ∷ ls) = passes l && all_pass ls
 
-all_right : (ls : List Listed) → all_pass ls ≡ true → All Right ls
+all_right : (ls : List Listed) → all_pass ls ≡ true → AllByRecursion Right ls
 all_right [] h = tt
 all_right (l ∷ ls) h = let a = and_parts (passes l) (all_pass ls) h in (passes_right l a.0, all_right ls a.1)
 

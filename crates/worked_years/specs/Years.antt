@@ -1,6 +1,6 @@
 -- Years worked by hand, with the figures that they must have.
 use Rattle.std.specs.Prelude.{◌≡◌, ℕ, Bool, true, false, List, [], ◌∷◌, pos, negsuc, Some, None, vec_items, Option}
-use Rattle.std.specs.List.{AllByRecursion as All}
+use Rattle.std.specs.List.{AllByRecursion}
 use Rattle.entries.specs.declared.case.Case.{Case}
 use Rattle.entries.specs.declared.case.Case.TheVariants.{Storage, ChargePoint, BothMetered}
 use Rattle.entries.specs.declared.readings.Readings.{Readings}
@@ -129,4 +129,4 @@ Right l =
 
 -- every year of the list is right
 abbrev pub YearsRight : Type 0
-YearsRight = All Right years
+YearsRight = AllByRecursion Right years
