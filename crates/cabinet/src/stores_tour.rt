@@ -195,7 +195,7 @@ fn put_and_look<S: Store>(
     quarter: u64,
     entry: Entry,
 ) -> (Result<(), PutRefusal>, bool)
-    ensures answer { refusal_in result.0 ≡ put_refusal (reach store.old) (capacity store.old) (pairs store.old) quarter }
+    ensures answer { refusal_in result.0 ≡ put_refusal (S.reach store.old) (S.capacity store.old) (S.pairs store.old) quarter }
     ensures agreed { result.1 ≡ true }
 {
     let before = store.look(quarter);
@@ -209,8 +209,8 @@ fn put_and_look<S: Store>(
 
 // The lowest quarter without a pair.
 fn first_free<S: Store>(store: &S) -> u64
-    ensures free { pairs store.now result ≡ None }
-    ensures first { (k : ℕ) → k < result → is_some (pairs store.now k) ≡ true }
+    ensures free { S.pairs store.now result ≡ None }
+    ensures first { (k : ℕ) → k < result → is_some (S.pairs store.now k) ≡ true }
 {
     let reach = store.reach();
     for quarter in 0..reach {
