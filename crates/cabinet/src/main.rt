@@ -1,7 +1,6 @@
 //! The cabinet: a tour of the box from end to end, layer by layer.
 #![tactic(auto)]
 
-
 mod book_tour;
 mod series_tour;
 mod stores_tour;

@@ -10,25 +10,36 @@ use stores::year_table::YearTable;
 /// The lines before the lines of values, in case 1.
 const START: &str = "CASE;YEAR\n1;2026\nQ;AW;Z1NB;Z1NE;Z2V;Z2E\n";
 
-/// Checks that the input is refused, and what the second line of the text tells.
+/// Checks that the input is refused, and what the second line of the text tells. A failure names the input by `at`.
 fn check_told<S: Store + Drop>(
     rt: &impl Abort,
     store: S,
     input: &[u8],
     told: &str,
+    at: &str,
 ) -> Result<(), Fail> {
     let output = split_text(store, input);
-    assert_eq!(rt; output.is_refusal(), true);
+    assert_eq!(rt; output.is_refusal(), true, "at {at}");
     let text = std::str::from_utf8(output.text())?;
-    assert_eq!(rt; text.strip_prefix("REFUSAL;LINE;PLACE\n"), Some(told));
+    assert_eq!(rt;
+        text.strip_prefix("REFUSAL;LINE;PLACE\n"),
+        Some(told),
+        "at {at}"
+    );
     Ok(())
 }
 
 /// The same of rows after the start, over a slip box of 1,000.
-fn check_rows(rt: &impl Abort, heap: Global, rows: &[u8], told: &str) -> Result<(), Fail> {
+fn check_rows(
+    rt: &impl Abort,
+    heap: Global,
+    rows: &[u8],
+    told: &str,
+    at: &str,
+) -> Result<(), Fail> {
     let mut input = START.as_bytes().to_vec(heap)?;
     input.extend_from_slice(rows)?;
-    check_told(rt, SlipBox::new(heap, 1_000)?, &input, told)
+    check_told(rt, SlipBox::new(heap, 1_000)?, &input, told, at)
 }
 
 #[test]
@@ -60,8 +71,8 @@ fn lines_before_the_values(rt: HostRuntime) -> Result<(), Fail> {
             SlipBox::new(rt.alloc(), 1_000)?,
             input.as_bytes(),
             told,
-        )
-        .note(input)?;
+            input,
+        )?;
     }
     Ok(())
 }
@@ -85,10 +96,16 @@ fn lines_of_values(rt: HostRuntime) -> Result<(), Fail> {
         ("0;700;1;2;3;4\n0;700;1;2;3;4", "7;5;0\n"),
         ("0;700;1;2;3;4\n0;100001;1;2;3;4\nx\n", "6;5;0\n"),
     ] {
-        check_rows(&rt, rt.alloc(), rows.as_bytes(), told).note(rows)?;
+        check_rows(&rt, rt.alloc(), rows.as_bytes(), told, rows)?;
     }
-    check_rows(&rt, rt.alloc(), b"0;700;1\xff;2;3;4\n", "15;4;3\n")?;
-    check_rows(&rt, rt.alloc(), b"0;700;1;2;3;\0\n", "15;4;6\n")
+    check_rows(
+        &rt,
+        rt.alloc(),
+        b"0;700;1\xff;2;3;4\n",
+        "15;4;3\n",
+        "a byte over 127",
+    )?;
+    check_rows(&rt, rt.alloc(), b"0;700;1;2;3;\0\n", "15;4;6\n", "a byte 0")
 }
 
 /// A start and so many rows, one for each quarter from 0 on, with 1,000,000 Wh imported in each.
@@ -115,30 +132,30 @@ fn limits(rt: HostRuntime) -> Result<(), Fail> {
         YearTable::new(heap, 35_039)?,
         input.as_bytes(),
         "3;2;0\n",
-    )
-    .note("REACH")?;
+        "REACH",
+    )?;
     let input = many_rows(heap, 1_001)?;
     check_told(
         &rt,
         SlipBox::new(heap, 1_000)?,
         input.as_bytes(),
         "10;1004;0\n",
-    )
-    .note("FULL")?;
+        "FULL",
+    )?;
     let input = many_rows(heap, 3_001)?;
     check_told(
         &rt,
         YearTable::new(heap, 35_136)?,
         input.as_bytes(),
         "9;3004;1\n",
-    )
-    .note("SUM")?;
+        "SUM",
+    )?;
     let line = long_line(heap, 200)?;
-    check_rows(&rt, heap, &line, "15;4;1\n").note("200 bytes")?;
-    check_told(&rt, SlipBox::new(heap, 1)?, &line, "14;1;1\n").note("200 bytes")?;
+    check_rows(&rt, heap, &line, "15;4;1\n", "200 bytes")?;
+    check_told(&rt, SlipBox::new(heap, 1)?, &line, "14;1;1\n", "200 bytes")?;
     let line = long_line(heap, 201)?;
-    check_rows(&rt, heap, &line, "15;4;0\n").note("201 bytes")?;
-    check_told(&rt, SlipBox::new(heap, 1)?, &line, "15;1;0\n").note("201 bytes")
+    check_rows(&rt, heap, &line, "15;4;0\n", "201 bytes")?;
+    check_told(&rt, SlipBox::new(heap, 1)?, &line, "15;1;0\n", "201 bytes")
 }
 
 /// Checks that the rows give a statement with these values.
@@ -146,9 +163,9 @@ fn check_stated(rt: &impl Abort, heap: Global, rows: &str, values: &str) -> Resu
     let mut input = String::from_str(heap, START)?;
     input.push_str(rows)?;
     let output = split_text(SlipBox::new(heap, 1_000)?, input.as_bytes());
-    assert_eq!(rt; output.is_refusal(), false);
+    assert_eq!(rt; output.is_refusal(), false, "at {rows}");
     let text = std::str::from_utf8(output.text())?;
-    assert_eq!(rt; text.lines().nth(1), Some(values));
+    assert_eq!(rt; text.lines().nth(1), Some(values), "at {rows}");
     Ok(())
 }
 
@@ -165,7 +182,7 @@ fn accepted(rt: HostRuntime) -> Result<(), Fail> {
             "1;2026;2;100;0;0;-33;133;0;0;0;0;0;0;0",
         ),
     ] {
-        check_stated(&rt, rt.alloc(), rows, values).note(rows)?;
+        check_stated(&rt, rt.alloc(), rows, values)?;
     }
     Ok(())
 }
