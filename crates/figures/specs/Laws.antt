@@ -1,5 +1,5 @@
 -- The laws by which the figures of a year add up.
-use Rattle.std.specs.Prelude.{◌≡◌, ℕ, ◌+◌, ◌≤◌, ℤ, pos, ◌+ℤ◌}
+use Rattle.std.specs.Prelude.{◌≡◌, ℕ, ◌+◌, ◌≤◌, pos, ◌+ℤ◌}
 use Rattle.entries.specs.declared.case.Case.{Case}
 use Rattle.entries.specs.declared.case.Case.TheVariants.{Storage, ChargePoint, Both, BothMetered}
 use Rattle.figures.specs.declared.figures.Figures.{Figures}

@@ -1,5 +1,5 @@
 -- The sums of a year: what one quarter's change makes of them, and that they balance.
-use Rattle.std.proofs.Common.{◌≡◌, ℕ, ◌+◌, ◌-◌, ◌<◌, Bool, true, false, cond, ltb, Some, None, ap, arith}
+use Rattle.std.proofs.Common.{◌≡◌, ℕ, ◌+◌, ◌<◌, Bool, true, false, cond, ltb, Some, None, ap, arith}
 use Rattle.entries.specs.declared.entry.Entry.{Entry}
 use Rattle.entries.specs.Pairs.{Pairs, most_quarters, no_pairs, updated, without, total}
 use Rattle.entries.proofs.Totals.{total_none, total_adds, total_le, total_added, total_replaced, total_removed}
