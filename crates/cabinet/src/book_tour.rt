@@ -17,7 +17,7 @@ use std::io;
 use stores::slip_box::SlipBox;
 use stores::store::Store;
 use stores::year_table::YearTable;
-use visits::run::{Visit, attend_all};
+use visits::visits::{Visit, attend_all};
 
 /// Two meters behind a transformer, at storage and charge point.
 type Pair = Transformer<SumMeter<IntervalMeter, RegisterMeter>>;

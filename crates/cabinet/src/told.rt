@@ -3,7 +3,7 @@ use book::refusal::Refusal;
 use series::fault::Cause;
 use statements::statement::Statement;
 use std::fmt;
-use visits::run::Answer;
+use visits::visits::Answer;
 
 /// A refusal's name.
 fn name_of(refusal: Refusal) -> &'static str {

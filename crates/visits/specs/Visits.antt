@@ -1,10 +1,10 @@
 -- The calls that visits make, and what their answers say.
 use Rattle.series.specs.declared.series.Meter as meters
 use Rattle.series.specs.declared.series.ValueList as lists
-use Rattle.visits.specs.declared.run.Visit.{Visit}
-use Rattle.visits.specs.declared.run.Visit.TheVariants.{Begin, Post, Amend, Fetch, Draw}
-use Rattle.visits.specs.declared.run.Answer.{Answer}
-use Rattle.visits.specs.declared.run.Answer.TheVariants.{Accepted, Refused, Drafted}
+use Rattle.visits.specs.declared.visits.Visit.{Visit}
+use Rattle.visits.specs.declared.visits.Visit.TheVariants.{Begin, Post, Amend, Fetch, Draw}
+use Rattle.visits.specs.declared.visits.Answer.{Answer}
+use Rattle.visits.specs.declared.visits.Answer.TheVariants.{Accepted, Refused, Drafted}
 use Rattle.book.specs.Refusals.{refusal_number, refusal_values}
 use Rattle.book.specs.Sheet.{Call, begin, post, amend, draw, Outcome, accepted, refused, drafted}
 use Rattle.book.specs.Sources.{fetch_from}

@@ -1,5 +1,5 @@
 use Rattle.book.proofs.Runs.{chain_kept}
-use Rattle.visits.proofs.run.attend_all.Goals as goal
+use Rattle.visits.proofs.visits.attend_all.Goals as goal
 
 pub returns : goal.returns
 returns g c =

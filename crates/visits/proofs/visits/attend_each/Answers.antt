@@ -1,7 +1,7 @@
 use Rattle.std.proofs.Common.{length, ap, arith}
 use Rattle.visits.specs.Visits.{call_of, outcome_in}
 use Rattle.visits.proofs.Chains.{chain_none, chain_turn, chain_all}
-use Rattle.visits.proofs.run.attend_each.Goals as goal
+use Rattle.visits.proofs.visits.attend_each.Goals as goal
 
 pub loop-visit-init : goal.loop-visit-init
 loop-visit-init g c = (omega arith, omega (arith, ap length c.requires.none, c.args.answers.now.ok.0), chain_none g.S.Store c.args.book.now outcome_in _ c.requires.none)

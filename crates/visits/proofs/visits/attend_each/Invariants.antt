@@ -1,7 +1,7 @@
 use Rattle.std.proofs.Common.{◌+◌, ◌-◌, ◌≤◌, map, length, take, vec_items, vec_len, vec_capacity}
 use Rattle.book.specs.Runs.{Chain}
 use Rattle.visits.specs.Visits.{call_of, outcome_in}
-use Rattle.visits.proofs.run.attend_each.Given as goal
+use Rattle.visits.proofs.visits.attend_each.Given as goal
 
 abbrev pub invariant-loop-visit : goal.invariant-loop-visit
 invariant-loop-visit g l =
