@@ -1,9 +1,9 @@
 //! Reads an input of up to 1,000 entries from standard input, and writes its statement, or the first refusal, to standard output.
 #![tactic(auto)]
 
-use anyhow::anyhow;
 use files::split::split_text;
 use std::io::{Read, Write};
+use std::process::ExitCode;
 use stores::slip_box::SlipBox;
 
 /// The slips of the program's slip box.
@@ -19,9 +19,9 @@ fn run(rt: &HostRuntime) -> anyhow::Result<bool> {
 }
 
 // After a refusal, which is told on standard output, the exit status is 1.
-fn main(rt: HostRuntime) -> anyhow::Result<()> {
+fn main(rt: HostRuntime) -> anyhow::Result<ExitCode> {
     if run(&rt)? {
-        return Err(anyhow!("refused"));
+        return Ok(ExitCode::FAILURE);
     }
-    Ok(())
+    Ok(ExitCode::SUCCESS)
 }

@@ -1,10 +1,10 @@
 //! Reads an input of up to a whole year from standard input, and writes its statement, or the first refusal, to standard output.
 #![tactic(auto)]
 
-use anyhow::anyhow;
 use entries::quarters::MOST_QUARTERS;
 use files::split::split_text;
 use std::io::{Read, Write};
+use std::process::ExitCode;
 use stores::year_table::YearTable;
 
 /// Answers standard input, and tells whether it was refused.
@@ -17,9 +17,9 @@ fn run(rt: &HostRuntime) -> anyhow::Result<bool> {
 }
 
 // After a refusal, which is told on standard output, the exit status is 1.
-fn main(rt: HostRuntime) -> anyhow::Result<()> {
+fn main(rt: HostRuntime) -> anyhow::Result<ExitCode> {
     if run(&rt)? {
-        return Err(anyhow!("refused"));
+        return Ok(ExitCode::FAILURE);
     }
-    Ok(())
+    Ok(ExitCode::SUCCESS)
 }
