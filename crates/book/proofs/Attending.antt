@@ -1,5 +1,5 @@
 -- What a call of the book has to show: at a refusal, and where it is accepted.
-use Rattle.std.proofs.Common.{◌≡◌, ℕ, ◌<◌, ◌≤◌, true, false, not, ltb, leb, ◌⊎◌, List, [], is_some, IsErrAnd, Some, None, Ok, Err, Option, Result, unwrap_or, sym, refl, ap, ◌∙◌, subst, ⊎_elim, arith}
+use Rattle.std.proofs.Common.{◌≡◌, ℕ, ◌<◌, ◌≤◌, true, false, not, ltb, leb, ◌⊎◌, List, [], is_some, Some, None, Ok, Err, Option, Result, unwrap_or, sym, refl, ap, ◌∙◌, subst, ⊎_elim, arith}
 use Rattle.std.proofs.lemmas.Bool.{lt-ltb, le-ltb, lt-leb, le-leb, leb-true}
 use Rattle.entries.specs.declared.case.Case.{Case as Kind}
 use Rattle.entries.specs.declared.case.Case.TheVariants.{Storage}
@@ -21,9 +21,9 @@ use Rattle.book.specs.Refusals.{refusal_number, refusal_values, told}
 use Rattle.book.specs.Sheet.{Sheet, Call, begin, post, amend, draw, accepted, refused, drafted, statement, Told, first_failing, checks, admitted, standing, effect, reply, written, blank}
 use Rattle.book.specs.Books.{sheet_of, InOrder, Kept, Attends, outcome_of}
 use Rattle.book.specs.Steps.{Untouched, Stored, Unstored, Opened, Entered, Exchanged, Started}
-use Rattle.book.proofs.Checks.{First, no_checks, met, fails, along, stops, told_refused, told_accepted}
+use Rattle.book.proofs.Checks.{First, no_checks, met, fails, along, told_refused, told_accepted}
 use Rattle.book.proofs.Keeping.{never_some, no_mark_met, no_mark_fails, is_admitted, quarters_within, written_in_order, beyond_reach, at_capacity, has_room, stood_never_full}
-use Rattle.book.proofs.Steps.{same_book, untouched}
+use Rattle.book.proofs.Steps.{same_book}
 
 pub not_refused : (n : ℕ) (vs : List ℕ) → accepted ≡ refused n vs → ⊥
 not_refused n vs e = let z : ◌≡◌ {A = ℕ} 0 1 = cc in omega arith
@@ -54,17 +54,6 @@ module _ {S : Type 0} (m : Ghosts S) (b b' : Book S) (c : Call) where
   pub attends_never : (y : Refusal) → Untouched b b' → (Kept m b → ⊥) → Attends m b c (refused (refusal_number y) (refusal_values y)) b'
   attends_never y u h =
       record { told = λ k. absurd (h k); kept = λ k. absurd (h k); refused = λ n vs e. same_book b b' u }
-
--- what a `?` returns, where its refusal is y
-pub raised : (y : Refusal) (r : Result (Unit {0}) Refusal) → IsErrAnd r (λ x. x ≡ y) → r ≡ Err y
-raised y (Ok x) h = absurd h
-raised y (Err x) h = ap (λ (z : Refusal). Err z) h
-
--- every exit of a call that answers a refusal before it has touched the book
-pub refused_by : {S : Type 0} (m : Ghosts S) (b : Book S) (c : Call) (y : Refusal) (r : Result (Unit {0}) Refusal) → r ≡ Err y
-    → First (checks (sheet_of m b) c) (Some (told y)) → Attends m b c (outcome_of r) b
-refused_by m b c y r e h =
-    subst (λ (x : Result (Unit {0}) Refusal). Attends m b c (outcome_of x) b) (sym e) (attends_refused m b b c y (untouched b) (λ _. h))
 
 module _ {S : Type 0} (m : Ghosts S) (b b' : Book S) (q : ℕ) (e : Entry) where
   abbrev s : Sheet
@@ -142,16 +131,8 @@ module _ {S : Type 0} (m : Ghosts S) (b b' : Book S) (q : ℕ) (e : Entry) where
       exchanged_attends (Err Value) h = absurd h
       exchanged_attends (Err (Series x f)) h = absurd h
 
--- the checks of a post and of an amendment
-module _ (s : Sheet) (q : ℕ) (e : Entry) where
-  pub post_unadmitted : (y : Refusal) → Some (told y) ≡ first_failing (admitted s q e) → First (checks s (post q e)) (Some (told y))
-  post_unadmitted y h = stops (admitted s q e) _ h
-
-  pub amend_unadmitted : (y : Refusal) → Some (told y) ≡ first_failing (admitted s q e) → First (checks s (amend q e)) (Some (told y))
-  amend_unadmitted y h = stops (admitted s q e) _ h
-
-  pub amend_absent : None ≡ first_failing (admitted s q e) → None ≡ s.pairs q → First (checks s (amend q e)) (Some (8, []))
-  amend_absent adm none = along (admitted s q e) _ (sym adm) (fails (ap is_some (sym none)))
+    pub absent_attends : Untouched b b' → s.pairs q ≡ None → Attends m b (amend q e) (refused 8 []) b'
+    absent_attends u none = attends_refused m b b' (amend q e) Absent u (λ k. along (admitted s q e) _ adm (fails (ap is_some none)))
 
 -- a draft over the book's own sums is the sheet's
 pub drawn_attends : {S : Type 0} (m : Ghosts S) (b : Book S) (d : Statement)
@@ -168,44 +149,39 @@ drawn_attends m b d e =
 
 -- the checks of a begin
 module _ (s : Sheet) (k y : ℕ) where
-  pub begin_no_case : None ≡ case_numbered k → First (checks s (begin k y)) (Some (1, []))
-  begin_no_case e = fails (ap is_some (sym e))
+  pub begin_no_case : case_numbered k ≡ None → First (checks s (begin k y)) (Some (1, []))
+  begin_no_case e = fails (ap is_some e)
 
-  module _ (a : Kind) (e : Some a ≡ case_numbered k) where
-    is_case : is_some (case_numbered k) ≡ true
-    is_case = ap is_some (sym e)
-
+  module _ {a : Kind} (e : case_numbered k ≡ Some a) where
     pub begin_no_year : (y < 2025) ⊎ ((2025 ≤ y) × (2099 < y)) → First (checks s (begin k y)) (Some (2, []))
     begin_no_year h =
-        ⊎_elim (λ early. met is_case (fails (lt-leb 2025 y early)))
-        (λ late. met is_case (met (le-leb 2025 y late.0) (fails (lt-leb y 2099 late.1)))) h
+        ⊎_elim (λ early. met (ap is_some e) (fails (lt-leb 2025 y early)))
+        (λ late. met (ap is_some e) (met (le-leb 2025 y late.0) (fails (lt-leb y 2099 late.1)))) h
 
-    module _ (early : 2025 ≤ y) (late : y ≤ 2099) (n : ℕ) (year : n ≡ quarters y) where
-      pub begin_no_reach : false ≡ leb n s.reach → First (checks s (begin k y)) (Some (3, []))
-      begin_no_reach h =
-          met is_case (met (le-leb 2025 y early) (met (le-leb y 2099 late) (fails (ap (λ (x : ℕ). leb x s.reach) (sym year) ∙ sym h))))
+    module _ (early : 2025 ≤ y) (late : y ≤ 2099) where
+      pub begin_no_reach : leb (quarters y) s.reach ≡ false → First (checks s (begin k y)) (Some (3, []))
+      begin_no_reach h = met (ap is_some e) (met (le-leb 2025 y early) (met (le-leb y 2099 late) (fails h)))
 
-      pub begin_passes : true ≡ leb n s.reach → First (checks s (begin k y)) None
-      begin_passes h =
-          met is_case (met (le-leb 2025 y early) (met (le-leb y 2099 late) (met (ap (λ (x : ℕ). leb x s.reach) (sym year) ∙ sym h) no_checks)))
+      pub begin_passes : leb (quarters y) s.reach ≡ true → First (checks s (begin k y)) None
+      begin_passes h = met (ap is_some e) (met (le-leb 2025 y early) (met (le-leb y 2099 late) (met h no_checks)))
 
 -- a year that begins is in order
-pub started_attends : {S : Type 0} (m : Ghosts S) (b b' : Book S) (k y : ℕ) (a : Kind) → Some a ≡ case_numbered k → 2025 ≤ y → y ≤ 2099
-    → (n : ℕ) → n ≡ quarters y → true ≡ leb n (m.reach b.store) → Started m b b' → b'.case ≡ a → b'.year ≡ y → Attends m b (begin k y) accepted b'
-started_attends m b b' k y a e early late n is reach st case year =
+pub started_attends : {S : Type 0} (m : Ghosts S) (b b' : Book S) (k y : ℕ) (a : Kind) → case_numbered k ≡ Some a → 2025 ≤ y → y ≤ 2099
+    → leb (quarters y) (m.reach b.store) ≡ true → Started m b b' → b'.case ≡ a → b'.year ≡ y → Attends m b (begin k y) accepted b'
+started_attends m b b' k y a e early late reach st case year =
     attends_accepted m b b' (begin k y) refl (λ _. (
-      begin_passes (sheet_of m b) k y a e early late n is reach,
+      begin_passes (sheet_of m b) k y e early late reach,
       (λ i. record {
         reach = st.reach i;
         capacity = st.capacity i;
-        case = (case ∙ ap (λ (o : Option Kind). unwrap_or o Storage) e) i;
+        case = (case ∙ sym (ap (λ (o : Option Kind). unwrap_or o Storage) e)) i;
         year = year i;
         pairs = st.pairs i;
       }),
       record {
         sums = st.sums;
         within = λ q x stood. absurd (never_some x (sym stood));
-        reached = omega (arith, leb-true n (m.reach b.store) (sym reach), is);
+        reached = leb-true (quarters y) (m.reach b.store) reach;
       },
     ))
 

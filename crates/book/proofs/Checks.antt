@@ -33,8 +33,8 @@ append (c ∷ fs) bs = either_by c.met (c.number, c.values) (first_failing (fs +
 pub along : (fs bs : List Check) {r : Option (ℕ × List ℕ)} → first_failing fs ≡ None → First bs r → First (fs ++ bs) r
 along fs bs e h = record { is = append fs bs ∙ ap (λ x. either x (first_failing bs)) e ∙ h.is }
 
-pub stops : (fs bs : List Check) {x : ℕ × List ℕ} → Some x ≡ first_failing fs → First (fs ++ bs) (Some x)
-stops fs bs e = record { is = append fs bs ∙ ap (λ x. either x (first_failing bs)) (sym e) }
+pub stops : (fs bs : List Check) {x : ℕ × List ℕ} → first_failing fs ≡ Some x → First (fs ++ bs) (Some x)
+stops fs bs e = record { is = append fs bs ∙ ap (λ x. either x (first_failing bs)) e }
 
 -- a call that a check refuses, and one that passes them all, as the sheet has it
 pub told_refused : (s : Sheet) (c : Call) (n : ℕ) (vs : List ℕ) → First (checks s c) (Some (n, vs)) → Told s c (refused n vs) s

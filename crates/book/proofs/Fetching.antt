@@ -6,8 +6,6 @@ use Rattle.entries.specs.declared.case.Case.TheVariants.{Storage, ChargePoint, B
 use Rattle.entries.specs.declared.entry.Entry.{Entry}
 use Rattle.entries.specs.Pairs.{Pairs}
 use Rattle.series.specs.declared.fault.Fault.{Fault}
-use Rattle.series.specs.declared.series.Meter as meters
-use Rattle.series.specs.declared.series.ValueList as lists
 use Rattle.series.specs.Limits.{Reading, Value}
 use Rattle.stores.specs.declared.store.Store.{Ghosts}
 use Rattle.book.specs.declared.book.Book.{Book}
@@ -19,13 +17,11 @@ use Rattle.book.specs.declared.refusal.SourceFault.{SourceFault}
 use Rattle.book.specs.Calendar.{quarters}
 use Rattle.book.specs.Refusals.{told}
 use Rattle.book.specs.Sheet.{Sheet, Call, fetch, post, Outcome, Told, outcome, after, answered, left_as, accepted, first_failing, checks, post_checks, fetched, written}
-use Rattle.book.specs.declared.sources.Sources.{Sources}
-use Rattle.book.specs.Sources.{storage_reading, gathered, gathered_from, fetch_from}
+use Rattle.book.specs.Sources.{storage_reading, gathered}
 use Rattle.book.specs.Books.{sheet_of, Attends}
 use Rattle.book.proofs.Checks.{First, met, fails}
 
--- the refusal of a fetch with this fault
-abbrev pub refusal_of : SourceFault → Refusal
+abbrev refusal_of : SourceFault → Refusal
 refusal_of f = Series f.source f.fault
 
 ok_is_not_err : {X Y P : Type 0} (x : X) (y : Y) → ◌≡◌ {A = Result X Y} (Ok x) (Err y) → P
@@ -46,7 +42,7 @@ module _ (reach capacity y : ℕ) (p : Pairs) (q : ℕ) (inside : ltb q (quarter
       → First (checks (at k) c) (Some (told (Series s x))) → First (checks (at k) c) (Some (told (refusal_of f)))
   first_by c k s x f e h = subst (λ (g : SourceFault). First (checks (at k) c) (Some (told (refusal_of g)))) e h
 
-  fault_first : (c : Case) (v : Value) (z1 z2 z3 : Reading) (f : SourceFault) → gathered v z1 z2 (storage_reading c z3) ≡ Err f
+  pub fault_first : (c : Case) (v : Value) (z1 z2 z3 : Reading) (f : SourceFault) → gathered v z1 z2 (storage_reading c z3) ≡ Err f
       → First (checks (at c) (fetch q v z1 z2 z3)) (Some (told (refusal_of f)))
   fault_first c (Err x) z1 z2 z3 f e =
       first_by (fetch q (Err x) z1 z2 z3) c Values x f (same_err _ f e) (met inside (fails refl))
@@ -97,36 +93,14 @@ module _ (reach capacity y : ℕ) (p : Pairs) (q : ℕ) (inside : ltb q (quarter
             ∙ ap (λ (x : Entry). left_as (first_failing (checks (at c) (post q e))) (written (at c) q x) (at c)) a.0);
       }
 
-module _ {S V X Y Z : Type 0} (m : Ghosts S) (l : lists.Ghosts V) (z1 : meters.Ghosts X) (z2 : meters.Ghosts Y) (z3 : meters.Ghosts Z)
-    (b : Book S) (s : Sources V X Y Z) (q : ℕ) (below : q < quarters b.year) where
-  inside : ltb q (quarters b.year) ≡ true
-  inside = lt-ltb q (quarters b.year) below
-
-  abbrev v : Value
-  v = l.values s.values.now q
-
-  abbrev r1 : Reading
-  r1 = z1.readings s.first.now q
-
-  abbrev r2 : Reading
-  r2 = z2.readings s.second.now q
-
-  abbrev r3 : Reading
-  r3 = z3.readings s.third.now q
-
-  -- a fetch from series with a fault is refused with the first
-  pub fetch_faulty : (f : SourceFault) → Err f ≡ gathered_from l z1 z2 z3 b.case s q
-      → First (checks (sheet_of m b) (fetch_from l z1 z2 z3 s q)) (Some (told (refusal_of f)))
-  fetch_faulty f h = fault_first (m.reach b.store) (m.capacity b.store) b.year (m.pairs b.store) q inside b.case v r1 r2 r3 f (sym h)
-
-  -- a fetch from series that make the entry e answers as the post of e
-  pub fetch_attends : (b' : Book S) (e : Entry) (o : Outcome) → Ok e ≡ gathered_from l z1 z2 z3 b.case s q → Attends m b (post q e) o b'
-      → Attends m b (fetch_from l z1 z2 z3 s q) o b'
-  fetch_attends b' e o h a =
-      record {
-        told = λ k.
-            told_as_post (m.reach b.store) (m.capacity b.store) b.year (m.pairs b.store) q inside b.case
-            v r1 r2 r3 e (sym h) o (sheet_of m b') (a.told k);
-        kept = a.kept;
-        refused = a.refused;
-      }
+-- a fetch whose series make the entry e answers as the post of e
+pub fetched_attends : {S : Type 0} (m : Ghosts S) (b b' : Book S) (q : ℕ) (v : Value) (z1 z2 z3 : Reading) (e : Entry) (o : Outcome) → q < quarters b.year
+    → gathered v z1 z2 (storage_reading b.case z3) ≡ Ok e → Attends m b (post q e) o b' → Attends m b (fetch q v z1 z2 z3) o b'
+fetched_attends m b b' q v z1 z2 z3 e o below h a =
+    record {
+      told = λ k.
+          told_as_post (m.reach b.store) (m.capacity b.store) b.year (m.pairs b.store) q (lt-ltb q (quarters b.year) below) b.case
+          v z1 z2 z3 e h o (sheet_of m b') (a.told k);
+      kept = a.kept;
+      refused = a.refused;
+    }

@@ -1,6 +1,6 @@
 -- The calls keep the book in order, and answer as the sheet does.
 use Rattle.std.proofs.Common.{◌≡◌, ℕ, ◌%◌, ◌<◌, ◌≤◌, Bool, true, false, cond, not, ◌&&◌, eqb, ltb, leb, List, [], ◌∷◌, is_some, Some, None, Option, sym, refl, ap, ◌∙◌, subst, ⊎_elim, arith}
-use Rattle.std.proofs.lemmas.Bool.{true≢false, ltb-true, leb-true, eqb-true, eq-eqb, cases_eq}
+use Rattle.std.proofs.lemmas.Bool.{ltb-true, leb-true, eqb-true, eq-eqb, cases_eq}
 use Rattle.entries.specs.declared.entry.Entry.{Entry}
 use Rattle.entries.specs.declared.readings.Mark.{Mark}
 use Rattle.entries.specs.Marks.{mark_number}
@@ -17,6 +17,9 @@ use Rattle.book.proofs.Checks.{First, met, fails}
 
 pub never_some : {A : Type 0} (x : A) → Some x ≡ None → ⊥
 never_some x e = let z : ◌≡◌ {A = ℕ} 0 1 = cc in omega arith
+
+true_is_not_false : {P : Type 0} → true ≡ false → P
+true_is_not_false e = absurd (let z : ◌≡◌ {A = ℕ} 0 1 = cc in omega arith)
 
 -- a check on a mark
 pub no_mark_met : (n : ℕ) {o : Option Mark} {cs : List Check} {r : Option (ℕ × List ℕ)} → o ≡ None → First cs r → First (no_mark o n ∷ cs) r
@@ -88,14 +91,14 @@ unput_10 false false false h = absurd (never_some 10 (sym h))
 
 put_10 : (a b c : Bool) → b ≡ false → put_by a b c ≡ None → c ≡ false
 put_10 true b c e h = absurd (never_some 4 h)
-put_10 false true c e h = absurd (true≢false e)
+put_10 false true c e h = true_is_not_false e
 put_10 false false true e h = absurd (never_some 10 h)
 put_10 false false false e h = refl
 
 stood_10 : (a b c : Bool) → b ≡ true → put_by a b c ≡ Some 10 → ⊥
 stood_10 true b c e h = let z : ◌≡◌ {A = ℕ} 4 10 = cc in omega arith
 stood_10 false true c e h = never_some 10 (sym h)
-stood_10 false false c e h = true≢false (sym e)
+stood_10 false false c e h = true_is_not_false (sym e)
 
 module _ (reach capacity : ℕ) (p : Pairs) (q : ℕ) where
   -- a put in the place of an entry that stands asks for no room
@@ -113,5 +116,5 @@ module _ (reach capacity : ℕ) (p : Pairs) (q : ℕ) where
       → put_refusal reach capacity p q ≡ None → tally p reach < capacity
   has_room none fit h =
       let apart : tally p reach ≡ capacity → ⊥ = λ e.
-      true≢false (sym (eq-eqb (tally p reach) capacity e) ∙ put_10 (leb reach q) (is_some (p q)) (eqb (tally p reach) capacity) (ap is_some none) h) in
+      true_is_not_false (sym (eq-eqb (tally p reach) capacity e) ∙ put_10 (leb reach q) (is_some (p q)) (eqb (tally p reach) capacity) (ap is_some none) h) in
       omega arith
