@@ -1,2 +1,4 @@
+pub mod Tallies
 pub mod Puts
 mod Places
+pub mod Slips

@@ -4,7 +4,7 @@ use Rattle.std.proofs.lemmas.Bool.Decides.{nat_tests}
 use Rattle.entries.specs.declared.entry.Entry.{Entry}
 use Rattle.entries.specs.Pairs.{Pairs}
 use Rattle.stores.specs.Puts.{put_refusal}
-use Rattle.stores.specs.Tallies.{tally_lt}
+use Rattle.stores.proofs.Tallies.{tally_lt}
 
 -- a store that can hold a pair for each quarter of its reach is never full
 pub never_full : (n : ℕ) (p : Pairs) (q : ℕ) → q < n → put_refusal n n p q ≡ None

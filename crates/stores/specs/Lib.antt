@@ -2,5 +2,4 @@ pub mod Puts
 pub mod Places
 pub mod Slips
 pub mod Makes
-pub mod SlipsLemmas
-pub mod Tallies
+pub mod StoreLaws

@@ -2,7 +2,7 @@
 ghost use Rattle.std.specs.Prelude.{◌≡◌, ◌<◌, ◌≤◌, true, Some, None, vec_len, vec_capacity, MatchOption, ◌≢◌};
 ghost use Rattle.entries.specs.Pairs.{most_quarters, updated, tally};
 ghost use Rattle.stores.specs.Slips.{on_slips, one_each, quarter_on, entry_on, Found};
-ghost use Rattle.stores.specs.SlipsLemmas.{once_from_test, slips_beyond, slips_fit};
+ghost use Rattle.stores.specs.StoreLaws.{once_from_test, slips_beyond, slips_fit};
 ghost use Rattle.std.proofs.Common.{subst};
 
 use crate::slip::Slip;

@@ -5,7 +5,7 @@ ghost use Rattle.stores.specs.Places.{in_places};
 ghost use Rattle.stores.specs.Puts.{put_refusal};
 ghost use Rattle.std.proofs.Common.{subst};
 ghost use Rattle.std.proofs.lemmas.List.{get_or_past};
-ghost use Rattle.stores.specs.Tallies.{tally_le};
+ghost use Rattle.stores.specs.StoreLaws.{tally_le};
 
 use crate::store::{PutRefusal, Store};
 use entries::entry::Entry;

@@ -3,7 +3,7 @@ use Rattle.std.proofs.lemmas.List.Edits.{fill_by_more}
 use Rattle.std.proofs.lemmas.List.{take_at}
 use Rattle.stores.specs.Places.{in_places}
 use Rattle.stores.proofs.Places.{places_empty}
-use Rattle.stores.specs.Tallies.{tally_empty}
+use Rattle.stores.proofs.Tallies.{tally_empty}
 use Rattle.stores.proofs.year_table.empty_all.Goals as goal
 
 pub loop-place-preserved : goal.loop-place-preserved

@@ -5,7 +5,7 @@ use Rattle.entries.specs.declared.entry.Entry.{Entry}
 use Rattle.entries.specs.Pairs.{no_pairs}
 use Rattle.stores.specs.Places.{in_places}
 use Rattle.stores.proofs.Places.{places_empty}
-use Rattle.stores.specs.Tallies.{tally_empty}
+use Rattle.stores.proofs.Tallies.{tally_empty}
 use Rattle.stores.proofs.year_table.empty_places.Goals as goal
 
 pub returns : goal.returns

@@ -1,7 +1,8 @@
 use Rattle.std.proofs.Common.{vec_items, sym, ap, ◌∙◌, arith, below_more}
 use Rattle.entries.specs.Pairs.{most_quarters}
 use Rattle.stores.specs.Slips.{quarter_on}
-use Rattle.stores.specs.SlipsLemmas.{once_from_test, quarter_read, read_quarter, slips_found, slips_miss}
+use Rattle.stores.specs.StoreLaws.{once_from_test}
+use Rattle.stores.proofs.Slips.{quarter_read, read_quarter, slips_found, slips_miss}
 use Rattle.stores.proofs.slip_box.SlipBox.find.Goals as goal
 
 pub loop-at-preserved : goal.loop-at-preserved

@@ -1,6 +1,7 @@
 use Rattle.std.proofs.Common.{vec_items, refl, arith}
 use Rattle.entries.specs.Pairs.{most_quarters}
-use Rattle.stores.specs.SlipsLemmas.{once_from_test, test_from_once, slips_set, once_set}
+use Rattle.stores.specs.StoreLaws.{once_from_test}
+use Rattle.stores.proofs.Slips.{test_from_once, slips_set, once_set}
 use Rattle.stores.proofs.slip_box.SlipBox.rewrite.Goals as goal
 
 pub invariant_of-self : goal.invariant_of-self

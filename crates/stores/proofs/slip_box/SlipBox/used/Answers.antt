@@ -1,6 +1,6 @@
 use Rattle.std.proofs.Common.{vec_items, arith}
 use Rattle.entries.specs.Pairs.{most_quarters}
-use Rattle.stores.specs.SlipsLemmas.{once_from_test, slips_tally}
+use Rattle.stores.specs.StoreLaws.{once_from_test, slips_tally}
 use Rattle.stores.proofs.slip_box.SlipBox.used.Goals as goal
 
 pub returns : goal.returns

@@ -1,7 +1,8 @@
 use Rattle.std.proofs.Common.{vec_items, refl, ap, ◌∙◌, arith}
 use Rattle.entries.specs.Pairs.{most_quarters}
 use Rattle.stores.specs.Slips.{on_slips, one_each}
-use Rattle.stores.specs.SlipsLemmas.{once_from_test, test_from_once, slips_tally, slips_push, once_push}
+use Rattle.stores.specs.StoreLaws.{once_from_test, slips_tally}
+use Rattle.stores.proofs.Slips.{test_from_once, slips_push, once_push}
 use Rattle.stores.proofs.slip_box.SlipBox.write_free.Goals as goal
 
 pub push_reserved-requires : goal.push_reserved-requires

@@ -2,7 +2,7 @@ use Rattle.std.proofs.Common.{None, vec_items, vec_len, refl, ap, arith}
 use Rattle.std.proofs.lemmas.List.{get_or_read_under}
 use Rattle.entries.specs.Pairs.{or_zero}
 use Rattle.stores.specs.Places.{in_places}
-use Rattle.stores.specs.Tallies.{tally_le}
+use Rattle.stores.specs.StoreLaws.{tally_le}
 use Rattle.stores.proofs.Places.{places_entered, places_counted, none_counts, some_counts}
 use Rattle.stores.proofs.Puts.{never_full}
 use Rattle.stores.proofs.year_table.YearTable.enter.Goals as goal

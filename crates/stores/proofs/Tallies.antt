@@ -1,20 +1,10 @@
 -- How many pairs there can be below a quarter.
-use Rattle.std.specs.Prelude.{◌≡◌, ℕ, zero, suc, ◌<◌, ◌≤◌, Some, None, Option}
+use Rattle.std.specs.Prelude.{◌≡◌, ℕ, zero, suc, ◌<◌, None}
 use Rattle.std.proofs.Common.{ap, ◌∙◌, inl, inr, arith}
 use Rattle.std.proofs.lemmas.Bool.{cases_eq}
-use Rattle.entries.specs.declared.entry.Entry.{Entry}
 use Rattle.entries.specs.Pairs.{Pairs, no_pairs, or_zero, total, tally}
 use Rattle.entries.proofs.Totals.{total_none}
-
-one_at_most : (o : Option Entry) → or_zero (λ _. 1) o ≤ 1
-one_at_most None = omega arith
-one_at_most (Some e) = omega arith
-
--- at most one pair a quarter
-pub tally_le : (p : Pairs) (n : ℕ) → tally p n ≤ n
-unfolding total
-tally_le p zero = omega arith
-tally_le p (suc n) = omega (arith, tally_le p n, one_at_most (p n))
+use Rattle.stores.specs.StoreLaws.{one_at_most, tally_le}
 
 -- and fewer where a quarter has none
 pub tally_lt : (p : Pairs) (q n : ℕ) → q < n → p q ≡ None → tally p n < n
