@@ -5,6 +5,7 @@
 
 use entries::entry::Entry;
 use entries::readings::Readings;
+use std::str::FromStr;
 use std::{env, io};
 use stores::slip_box::SlipBox;
 use stores::store::Store;
@@ -25,8 +26,24 @@ enum Make {
     SlipBox,
 }
 
+/// A word that names no make.
+#[derive(Clone, Copy, Debug)]
+struct NoSuchMake;
+
+impl FromStr for Make {
+    type Err = NoSuchMake;
+
+    fn from_str(word: &str) -> Result<Make, NoSuchMake> {
+        match word {
+            "year_table" => Ok(Make::YearTable),
+            "slip_box" => Ok(Make::SlipBox),
+            _ => Err(NoSuchMake),
+        }
+    }
+}
+
 fn main(rt: HostRuntime) -> io::Result<()> {
-    let Some(order) = read_order(&rt)? else {
+    let Some(order) = read_order(env::args(&rt)?) else {
         return println!(rt; "usage: bench_stores year_table|slip_box SIZE PUT_ROUNDS LOOK_ROUNDS");
     };
     let heap = rt.alloc();
@@ -37,64 +54,38 @@ fn main(rt: HostRuntime) -> io::Result<()> {
 }
 
 // The order that the arguments make, if they make one.
-fn read_order(rt: &HostRuntime) -> io::Result<Option<Order>> {
-    let mut args = env::args(rt)?;
-    let _program = args.next();
-    let make = read_make(args.next());
-    let size = read_number(args.next());
-    let put_rounds = read_number(args.next());
-    let look_rounds = read_number(args.next());
-    let (Some(make), Some(size), Some(put_rounds), Some(look_rounds)) = (
-        make,
-        size,
-        put_rounds,
-        look_rounds,
-    ) else {
-        return Ok(None);
-    };
-    Ok(Some(Order {
-        make,
-        size,
-        put_rounds,
-        look_rounds,
-    }))
-}
-
-fn read_make(word: Option<String>) -> Option<Make> {
-    match word?.as_str() {
-        "year_table" => Some(Make::YearTable),
-        "slip_box" => Some(Make::SlipBox),
-        _ => None,
-    }
-}
-
-fn read_number(word: Option<String>) -> Option<u64> {
-    word?.parse::<u64>().ok()
+fn read_order(mut args: env::Args) -> Option<Order> {
+    let _program = args.next()?;
+    Some(Order {
+        make: args.next()?.parse().ok()?,
+        size: args.next()?.parse().ok()?,
+        put_rounds: args.next()?.parse().ok()?,
+        look_rounds: args.next()?.parse().ok()?,
+    })
 }
 
 // Does the rounds. Tells how many puts were accepted, and what the amounts of all the entries found add up to.
 fn work<S: Store + Drop>(rt: &HostRuntime, mut store: S, order: Order) -> io::Result<()> {
+    // A loop, since a round changes the store.
     let mut accepted: u64 = 0;
     for _ in 0..order.put_rounds {
         accepted = accepted.saturating_add(put_round(&mut store));
     }
-    let mut found: u64 = 0;
-    for _ in 0..order.look_rounds {
-        found = found.wrapping_add(look_round(&store));
-    }
+    let found = (0..order.look_rounds)
+        .map(|_| look_round(&store))
+        .fold(0, u64::wrapping_add);
     let count = store.count();
     println!(rt; "{count} pairs stand: {accepted} puts accepted, {found} in all found")
 }
 
-// Puts at each of the round's quarters. Answers how many puts were accepted.
+// Puts at each of the round's quarters, in a loop since each put changes the store. Answers how many puts were accepted.
 fn put_round<S: Store>(store: &mut S) -> u64 {
-    let capacity = store.capacity();
-    let stretch = store.reach().checked_div(capacity).unwrap_or(0);
+    let stretch = stretch(store);
     let mut accepted: u64 = 0;
-    for i in 0..capacity {
+    for i in 0..store.capacity() {
         let quarter = i.wrapping_mul(stretch);
         if store.put(quarter, entry_for(quarter)).is_ok() {
-            accepted = accepted.saturating_add(1);
+            accepted += 1;
         }
     }
     accepted
@@ -103,40 +94,40 @@ fn put_round<S: Store>(store: &mut S) -> u64 {
 // Looks at each of the round's quarters. Answers the sum of the amounts of what it finds, so that no part of a look
 // can be left out.
 fn look_round<S: Store>(store: &S) -> u64 {
-    let capacity = store.capacity();
-    let stretch = store.reach().checked_div(capacity).unwrap_or(0);
-    let mut found: u64 = 0;
-    for i in 0..capacity {
-        if let Some(entry) = store.look(i.wrapping_mul(stretch)) {
-            found = found.wrapping_add(amounts(entry));
-        }
-    }
-    found
+    let stretch = stretch(store);
+    (0..store.capacity())
+        .map(|i| store.look(i.wrapping_mul(stretch)).map_or(0, amounts))
+        .fold(0, u64::wrapping_add)
+}
+
+// How far apart a round's quarters are.
+fn stretch<S: Store>(store: &S) -> u64 {
+    store.reach().checked_div(store.capacity()).unwrap_or(0)
 }
 
 // An entry with seven different amounts.
 fn entry_for(quarter: u64) -> Entry {
-    let readings = Readings {
-        import: quarter,
-        feed_in: quarter.wrapping_add(1),
-        drawn: quarter.wrapping_add(2),
-        given: quarter.wrapping_add(3),
-        storage_drawn: quarter.wrapping_add(4),
-        storage_given: quarter.wrapping_add(5),
-    };
     Entry {
-        readings,
+        readings: Readings {
+            import: quarter,
+            feed_in: quarter.wrapping_add(1),
+            drawn: quarter.wrapping_add(2),
+            given: quarter.wrapping_add(3),
+            storage_drawn: quarter.wrapping_add(4),
+            storage_given: quarter.wrapping_add(5),
+        },
         value: 700,
     }
 }
 
-// The sum of the seven amounts.
+// The sum of the seven amounts. A fold over an array would cost more than the look.
 fn amounts(entry: Entry) -> u64 {
     let r = entry.readings;
-    let site = r.import.wrapping_add(r.feed_in);
-    let behind = r.drawn.wrapping_add(r.given);
-    let storage = r.storage_drawn.wrapping_add(r.storage_given);
-    site.wrapping_add(behind)
-        .wrapping_add(storage)
+    r.import
+        .wrapping_add(r.feed_in)
+        .wrapping_add(r.drawn)
+        .wrapping_add(r.given)
+        .wrapping_add(r.storage_drawn)
+        .wrapping_add(r.storage_given)
         .wrapping_add(entry.value)
 }

@@ -1,32 +1,27 @@
--- The calls keep the book in order, and answer as the sheet does.
-use Rattle.std.proofs.Common.{◌≡◌, ℕ, ◌%◌, ◌<◌, ◌≤◌, Bool, true, false, cond, not, ◌&&◌, eqb, ltb, leb, List, [], ◌∷◌, is_some, Some, None, Option, sym, refl, ap, ◌∙◌, subst, ⊎_elim, arith}
-use Rattle.std.proofs.lemmas.Bool.{ltb-true, leb-true, eqb-true, eq-eqb, cases_eq}
+-- What keeps a sheet in order.
+use Rattle.std.proofs.Common.{◌≡◌, subst, ℕ, ◌%◌, ◌<◌, ◌≤◌, Bool, true, false, cond, not, ◌&&◌, eqb, ltb, [], ◌∷◌, is_some, Some, None, Option, sym, refl, ap, ◌∙◌, ⊎_elim, arith}
+use Rattle.std.proofs.Props.{props}
+use Rattle.stores.specs.declared.store.Store.{Ghosts}
+use Rattle.book.specs.declared.book.Book.{Book}
+use Rattle.book.specs.Books.{sheet_of}
+use Rattle.std.proofs.lemmas.Bool.{ltb-true, cases_eq}
+use Rattle.std.proofs.lemmas.Bool.Decides.{nat_tests}
 use Rattle.entries.specs.declared.entry.Entry.{Entry}
 use Rattle.entries.specs.declared.readings.Mark.{Mark}
-use Rattle.entries.specs.Marks.{mark_number}
 use Rattle.entries.specs.Entries.{unfit_reading, value_over, within_limits}
-use Rattle.entries.specs.Pairs.{Pairs, most_quarters, updated, tally}
+use Rattle.entries.specs.Pairs.{tally, Pairs, most_quarters, no_pairs, updated}
 use Rattle.entries.proofs.Totals.{with_at_here, with_at_elsewhere}
 use Rattle.sums.specs.declared.totals.Totals.{Totals}
 use Rattle.sums.specs.Year.{totals}
-use Rattle.stores.specs.Puts.{put_refusal}
+use Rattle.sums.specs.Sums.{with_entry}
+use Rattle.sums.proofs.Years.{totals_added}
+use Rattle.stores.specs.declared.store.PutRefusal.{PutRefusal}
+use Rattle.stores.specs.declared.store.PutRefusal.TheVariants.{Quarter as OutOfReach, Full as NoRoom}
+use Rattle.stores.specs.Puts.{put_refusal, put_refusal_number}
 use Rattle.book.specs.Calendar.{quarters}
-use Rattle.book.specs.Sheet.{Sheet, Check, check, no_mark, first_failing, admitted, written}
-use Rattle.book.specs.Books.{InOrder}
-use Rattle.book.proofs.Checks.{First, met, fails}
-
-pub never_some : {A : Type 0} (x : A) → Some x ≡ None → ⊥
-never_some x e = let z : ◌≡◌ {A = ℕ} 0 1 = cc in omega arith
-
-true_is_not_false : {P : Type 0} → true ≡ false → P
-true_is_not_false e = absurd (let z : ◌≡◌ {A = ℕ} 0 1 = cc in omega arith)
-
--- a check on a mark
-pub no_mark_met : (n : ℕ) {o : Option Mark} {cs : List Check} {r : Option (ℕ × List ℕ)} → o ≡ None → First cs r → First (no_mark o n ∷ cs) r
-no_mark_met n {o} {cs} {r} e h = subst (λ (x : Option Mark). First (no_mark x n ∷ cs) r) (sym e) (met refl h)
-
-pub no_mark_fails : (n : ℕ) {o : Option Mark} (cs : List Check) (k : Mark) → o ≡ Some k → First (no_mark o n ∷ cs) (Some (n, mark_number k ∷ []))
-no_mark_fails n {o} cs k e = subst (λ (x : Option Mark). First (no_mark x n ∷ cs) (Some (n, mark_number k ∷ []))) (sym e) (fails refl)
+use Rattle.book.specs.Refusals.{told, put_refused}
+use Rattle.book.specs.Sheet.{Sheet, check, no_mark, first_failing, admitted, room_at}
+use Rattle.book.specs.Order.{sheet_over, InOrder}
 
 -- what it means that all checks of an admission are met
 pub record Admitted (s : Sheet) (q : ℕ) (e : Entry) : Type 0 where
@@ -36,9 +31,9 @@ pub record Admitted (s : Sheet) (q : ℕ) (e : Entry) : Type 0 where
 admitted_by : (a : Bool) (o : Option Mark) (v : Bool) → first_failing (check a 4 ∷ (no_mark o 5 ∷ (check (not v) 6 ∷ []))) ≡ None
     → (a ≡ true) × ((not (is_some o) && not v) ≡ true)
 admitted_by true None false h = (refl, refl)
-admitted_by true None true h = absurd (never_some _ h)
-admitted_by true (Some m) v h = absurd (never_some _ h)
-admitted_by false o v h = absurd (never_some _ h)
+admitted_by true None true h = absurd cc
+admitted_by true (Some m) v h = absurd cc
+admitted_by false o v h = absurd cc
 
 pub is_admitted : (s : Sheet) (q : ℕ) (e : Entry) → first_failing (admitted s q e) ≡ None → Admitted s q e
 is_admitted s q e h =
@@ -51,70 +46,71 @@ quarters_by true b = omega arith
 quarters_by false true = omega arith
 quarters_by false false = omega arith
 
-pub quarters_within : (y : ℕ) → quarters y ≤ most_quarters
+quarters_within : (y : ℕ) → quarters y ≤ most_quarters
 unfolding quarters
 quarters_within y = quarters_by (eqb y 0) (eqb (y % 4) 0)
 
--- an admitted entry at a quarter keeps the sheet in order, with the sums that go with it
-pub written_in_order : (s : Sheet) (t u : Totals) (q : ℕ) (e : Entry) → InOrder s t → Admitted s q e → u ≡ totals (updated s.pairs q e) → InOrder (written s q e) u
-written_in_order s t u q e k a sum =
+pub admitted_within : (s : Sheet) (q : ℕ) (e : Entry) → first_failing (admitted s q e) ≡ None → q < most_quarters
+admitted_within s q e h = omega (arith, (is_admitted s q e h).below, quarters_within s.year)
+
+-- a sheet with no entry is in order with the sums of none
+pub blank_in_order : (s : Sheet) (t : Totals) → s.pairs ≡ no_pairs → t ≡ totals no_pairs → quarters s.year ≤ s.reach → InOrder s t
+blank_in_order s t none sums reached =
     record {
-      sums = sum;
-      within = λ j x stood. ⊎_elim (here j x stood) (elsewhere j x stood) (cases_eq j q);
-      reached = k.reached;
+      sums = sums ∙ ap totals (sym none);
+      within = λ q e stood. absurd (let z : no_pairs q ≡ Some e = sym (ap (λ (p : Pairs). p q) none) ∙ stood in cc);
+      reached = reached;
     }
-  where
-    here : (j : ℕ) (x : Entry) → updated s.pairs q e j ≡ Some x → j ≡ q → (j < quarters s.year) × (within_limits s.case x ≡ true)
-    here j x stood same =
-        let is : Some e ≡ Some x = sym (with_at_here s.pairs q (Some e)) ∙ ap (updated s.pairs q e) (sym same) ∙ stood in
-        let entry : e ≡ x = cc in
-        (omega (arith, same, a.below), ap (within_limits s.case) (sym entry) ∙ a.fits)
 
-    elsewhere : (j : ℕ) (x : Entry) → updated s.pairs q e j ≡ Some x → (j ≡ q → ⊥) → (j < quarters s.year) × (within_limits s.case x ≡ true)
-    elsewhere j x stood apart = k.within j x (sym (with_at_elsewhere s.pairs q (Some e) j apart) ∙ stood)
+-- before a year has begun there is no quarter
+pub unbegun : quarters 0 ≡ 0
+unfolding quarters
+unbegun = refl
 
--- what a put's refusal, or its lack, says
-abbrev put_by : Bool → Bool → Bool → Option ℕ
-put_by a b c = cond a (Some 4) (cond b None (cond c (Some 10) None))
+in_order_once : (s : Sheet) (t : Totals) → IsProp (InOrder s t)
+in_order_once s t = hlevel props
 
-unput_4 : (a b c : Bool) → put_by a b c ≡ Some 4 → a ≡ true
-unput_4 true b c h = refl
-unput_4 false true c h = absurd (never_some 4 (sym h))
-unput_4 false false true h = absurd (let z : ◌≡◌ {A = ℕ} 10 4 = cc in omega arith)
-unput_4 false false false h = absurd (never_some 4 (sym h))
+module _ {S : Type 0} {m : Ghosts S} where
+  -- a book with its store put back as it was is the same book
+  pub same_book : (b : Book S m) (x : S) (h : InOrder (sheet_over m x b.case b.year) b.sums.totals) → x ≡ b.store
+      → record { store = x; sums = b.sums; case = b.case; year = b.year; in_order = h } ≡ b
+  same_book b x h e =
+      let P : S → Type 0 = λ y. (k : InOrder (sheet_over m y b.case b.year) b.sums.totals) → record { store = y; sums = b.sums; case = b.case; year = b.year; in_order = k } ≡ b in
+      let at : P b.store = λ k. ap (λ (w : InOrder (sheet_over m b.store b.case b.year) b.sums.totals). record { store = b.store; sums = b.sums; case = b.case; year = b.year; in_order = w }) (in_order_once _ _ k b.in_order) in
+      subst P (sym e) at h
 
-unput_10 : (a b c : Bool) → put_by a b c ≡ Some 10 → c ≡ true
-unput_10 true b c h = absurd (let z : ◌≡◌ {A = ℕ} 4 10 = cc in omega arith)
-unput_10 false true c h = absurd (never_some 10 (sym h))
-unput_10 false false true h = refl
-unput_10 false false false h = absurd (never_some 10 (sym h))
+  -- a store with an admitted entry put into it keeps the order, with the sums that go with it
+  pub settled_in_order : (b : Book S m) (x : S) (u : Totals) (q : ℕ) (e : Entry) → m.pairs x ≡ updated (m.pairs b.store) q e
+      → u ≡ totals (updated (m.pairs b.store) q e) → m.reach x ≡ m.reach b.store → first_failing (admitted (sheet_of m b) q e) ≡ None
+      → InOrder (sheet_over m x b.case b.year) u
+  settled_in_order b x u q e is sum same adm =
+      rw (is, same) (record { sums = sum; within = λ j y stood. ⊎_elim (here j y stood) (elsewhere j y stood) (cases_eq j q); reached = b.in_order.reached })
+    where
+      a : Admitted (sheet_of m b) q e
+      a = is_admitted (sheet_of m b) q e adm
 
-put_10 : (a b c : Bool) → b ≡ false → put_by a b c ≡ None → c ≡ false
-put_10 true b c e h = absurd (never_some 4 h)
-put_10 false true c e h = true_is_not_false e
-put_10 false false true e h = absurd (never_some 10 h)
-put_10 false false false e h = refl
+      here : (j : ℕ) (y : Entry) → updated (m.pairs b.store) q e j ≡ Some y → j ≡ q → (j < quarters b.year) × (within_limits b.case y ≡ true)
+      here j y stood at =
+          let is : Some e ≡ Some y = sym (with_at_here (m.pairs b.store) q (Some e)) ∙ ap (updated (m.pairs b.store) q e) (sym at) ∙ stood in
+          let entry : e ≡ y = cc in
+          (omega (arith, at, a.below), ap (within_limits b.case) (sym entry) ∙ a.fits)
 
-stood_10 : (a b c : Bool) → b ≡ true → put_by a b c ≡ Some 10 → ⊥
-stood_10 true b c e h = let z : ◌≡◌ {A = ℕ} 4 10 = cc in omega arith
-stood_10 false true c e h = never_some 10 (sym h)
-stood_10 false false c e h = true_is_not_false (sym e)
+      elsewhere : (j : ℕ) (y : Entry) → updated (m.pairs b.store) q e j ≡ Some y → (j ≡ q → ⊥) → (j < quarters b.year) × (within_limits b.case y ≡ true)
+      elsewhere j y stood apart = b.in_order.within j y (sym (with_at_elsewhere (m.pairs b.store) q (Some e) j apart) ∙ stood)
 
-module _ (reach capacity : ℕ) (p : Pairs) (q : ℕ) where
-  -- a put in the place of an entry that stands asks for no room
-  pub stood_never_full : (old : Entry) → p q ≡ Some old → put_refusal reach capacity p q ≡ Some 10 → ⊥
-  stood_never_full old stood h = stood_10 (leb reach q) (is_some (p q)) (eqb (tally p reach) capacity) (ap is_some stood) h
+  -- a put of an admitted entry within the reach is refused only where there is no room
+  pub put_told : (b : Book S m) (q : ℕ) (e : Entry) (p : PutRefusal)
+      → Some (put_refusal_number p) ≡ put_refusal (m.reach b.store) (m.capacity b.store) (m.pairs b.store) q
+      → first_failing (admitted (sheet_of m b) q e) ≡ None → tally (m.pairs b.store) (m.reach b.store) ≤ m.capacity b.store
+      → first_failing (room_at (sheet_of m b) q) ≡ Some (told (put_refused p))
+  put_told b q e OutOfReach h adm fit =
+      let below = (is_admitted (sheet_of m b) q e adm).below in
+      let reached = b.in_order.reached in
+      absurd (let z : ⊥ = grind (arith, nat_tests) in z)
+  put_told b q e NoRoom h adm fit = grind (arith, nat_tests)
 
-  pub beyond_reach : put_refusal reach capacity p q ≡ Some 4 → reach ≤ q
-  beyond_reach h = leb-true reach q (unput_4 (leb reach q) (is_some (p q)) (eqb (tally p reach) capacity) h)
-
-  pub at_capacity : put_refusal reach capacity p q ≡ Some 10
-      → tally p reach ≡ capacity
-  at_capacity h = eqb-true (tally p reach) capacity (unput_10 (leb reach q) (is_some (p q)) (eqb (tally p reach) capacity) h)
-
-  pub has_room : p q ≡ None → tally p reach ≤ capacity
-      → put_refusal reach capacity p q ≡ None → tally p reach < capacity
-  has_room none fit h =
-      let apart : tally p reach ≡ capacity → ⊥ = λ e.
-      true_is_not_false (sym (eq-eqb (tally p reach) capacity e) ∙ put_10 (leb reach q) (is_some (p q)) (eqb (tally p reach) capacity) (ap is_some none) h) in
-      omega arith
+  -- the sums with an admitted entry that is new at its quarter
+  pub new_sums : (b : Book S m) (q : ℕ) (e : Entry) (u : Totals) → u ≡ with_entry b.sums.totals e → m.pairs b.store q ≡ None
+      → first_failing (admitted (sheet_of m b) q e) ≡ None → u ≡ totals (updated (m.pairs b.store) q e)
+  new_sums b q e u sum none adm =
+      sum ∙ ap (λ (t : Totals). with_entry t e) b.in_order.sums ∙ sym (totals_added (m.pairs b.store) q e (admitted_within (sheet_of m b) q e adm) none)

@@ -12,7 +12,6 @@ use Rattle.book.specs.declared.book.Book.{Book}
 use Rattle.book.specs.Sheet.{Sheet, Call, begin, post, amend, fetch, draw, Outcome, accepted, refused, drafted, blank, statement, fetched, first_failing, checks, reply, effect, answered, left_as, outcome, after}
 use Rattle.book.specs.Books.{sheet_of, Kept, Attends}
 use Rattle.book.specs.Runs.{outcomes, final, AddsUp, Done, pair_up, entered_at, Begins, Quiet, LastEntered, StandsBy, RunLaw, Chain, no_call, one_more}
-use Rattle.book.proofs.Attending.{not_refused}
 
 -- every draft adds up
 adds_up_by : (r : Option (ℕ × List ℕ)) (s : Sheet) (c : Call) → AddsUp (answered r (reply s c))
@@ -52,7 +51,7 @@ module _ (q : ℕ) (s s₁ t : Sheet) (x : Done) (done : List Done) where
   later_on (untouched quiet pairs case) h = h quiet pairs case
 
 refused_quiet : (c : Case) (q : ℕ) (k : Call) (n : ℕ) (vs : List ℕ) → refused n vs ≡ accepted → (Begins k → ⊥) × (entered_at c q k ≡ None)
-refused_quiet c q k n vs e = absurd (not_refused n vs (sym e))
+refused_quiet c q k n vs e = absurd cc
 
 drafted_quiet : (c : Case) (q : ℕ) (s : Sheet) → drafted (statement s) ≡ accepted → (Begins draw → ⊥) × (entered_at c q draw ≡ None)
 drafted_quiet c q s e = ((λ x. x), refl)
@@ -135,38 +134,37 @@ law_of_run reach capacity cs =
     }
 
 module _ {S : Type 0} (m : Ghosts S) where
-  record Followed (b : Book S) (cs : List Call) (os : List Outcome) (b' : Book S) : Type 0 where
+  record Followed (b : Book S m) (cs : List Call) (os : List Outcome) (b' : Book S m) : Type 0 where
     answers : os ≡ outcomes (sheet_of m b) cs
     sheet : sheet_of m b' ≡ final (sheet_of m b) cs
 
-  followed : {b b' : Book S} {cs : List Call} {os : List Outcome} → Chain m b cs os b' → Kept m b → Followed b cs os b'
+  followed : {b b' : Book S m} {cs : List Call} {os : List Outcome} → Chain m b cs os b' → Followed b cs os b'
   unfolding outcomes final
-  followed no_call k = record { answers = refl; sheet = refl }
-  followed (one_more {b} {b₁} {b₂} {c} {o} {cs} {os} a h) k =
-      let t = a.told k in
-      let rest = followed h (a.kept k) in
+  followed no_call = record { answers = refl; sheet = refl }
+  followed (one_more {b} {b₁} {b₂} {c} {o} {cs} {os} a h) =
+      let t = a.told in
+      let rest = followed h in
       record {
         answers = ap (λ (x : Outcome). x ∷ os) t.answer ∙ ap (λ (xs : List Outcome). outcome (sheet_of m b) c ∷ xs) (rest.answers ∙ ap (λ (s : Sheet). outcomes s cs) t.sheet);
         sheet = rest.sheet ∙ ap (λ (s : Sheet). final s cs) t.sheet;
       }
 
   -- and so does every chain of calls on a book that begins with one
-  pub law_of_chain : (b : Book S) (reach capacity : ℕ) → sheet_of m b ≡ blank reach capacity → Kept m b → (b' : Book S) (cs : List Call) (os : List Outcome)
-      → Chain m b cs os b' → RunLaw (blank reach capacity) cs os (sheet_of m b')
-  law_of_chain b reach capacity new k b' cs os h =
-      let f = followed h k in
+  pub law_of_chain : {b b' : Book S m} {cs : List Call} {os : List Outcome} (reach capacity : ℕ) → Chain m b cs os b' → sheet_of m b ≡ blank reach capacity
+      → RunLaw (blank reach capacity) cs os (sheet_of m b')
+  law_of_chain {b} {b'} {cs} {os} reach capacity h new =
+      let f = followed h in
       let answers : os ≡ outcomes (blank reach capacity) cs = f.answers ∙ ap (λ (s : Sheet). outcomes s cs) new in
       let sheet : sheet_of m b' ≡ final (blank reach capacity) cs = f.sheet ∙ ap (λ (s : Sheet). final s cs) new in
       subst (λ (t : Sheet). RunLaw (blank reach capacity) cs os t) (sym sheet)
       (subst (λ (xs : List Outcome). RunLaw (blank reach capacity) cs xs (final (blank reach capacity) cs)) (sym answers) (law_of_run reach capacity cs))
 
   -- one call more at the end of a chain
-  pub chain_push : {b b₁ b₂ : Book S} {c : Call} {o : Outcome} {cs : List Call} {os : List Outcome} → Chain m b cs os b₁ → Attends m b₁ c o b₂
+  pub chain_push : {b b₁ b₂ : Book S m} {c : Call} {o : Outcome} {cs : List Call} {os : List Outcome} → Chain m b cs os b₁ → Attends m b₁ c o b₂
       → Chain m b (cs ++ (c ∷ [])) (os ++ (o ∷ [])) b₂
   chain_push no_call a = one_more a no_call
   chain_push (one_more x h) a = one_more x (chain_push h a)
 
-  -- a chain keeps the book
-  pub chain_kept : {b b' : Book S} {cs : List Call} {os : List Outcome} → Chain m b cs os b' → Kept m b → Kept m b'
-  chain_kept no_call k = k
-  chain_kept (one_more a h) k = chain_kept h (a.kept k)
+-- a book after a chain is kept, as every book is
+pub chain_kept : {S : Type 0} {m : Ghosts S} {b b' : Book S m} {cs : List Call} {os : List Outcome} → Chain m b cs os b' → Kept m b'
+chain_kept {b' = b'} h = b'.in_order

@@ -2,6 +2,6 @@ pub mod Calendar
 pub mod Refusals
 pub mod Sheet
 pub mod Sources
+pub mod Order
 pub mod Books
-pub mod Steps
 pub mod Runs

@@ -1,6 +1,6 @@
 -- The sheet kept by hand beside a book: what each call must answer, and what then stands. It knows a call's arguments, what a fetch's series have at the
 -- quarter, and the store's reach and capacity; nothing of the book's own.
-use Rattle.std.specs.Prelude.{◌≡◌, ℕ, Bool, true, false, cond, not, List, [], ◌∷◌, ◌++◌, is_some, Some, None, Ok, Err, Option, Result, nat_le, nat_lt}
+use Rattle.std.specs.Prelude.{◌≡◌, ℕ, Bool, true, false, cond, not, ◌||◌, List, [], ◌∷◌, ◌++◌, is_some, Some, None, Ok, Err, Option, Result, nat_le, nat_lt}
 use Rattle.std.specs.Option.{unwrap_or}
 use Rattle.entries.specs.declared.case.Case.{Case}
 use Rattle.entries.specs.declared.case.Case.TheVariants.{Storage, ChargePoint, Both, BothMetered}
@@ -89,12 +89,19 @@ summable p e = no_mark (past (totals p) e) 9
 abbrev pub standing : Sheet → ℕ
 standing s = tally s.pairs s.reach
 
--- a post: nothing stands at the quarter (7), the sums keep their limits (9), there is room (10)
-abbrev pub post_checks : Sheet → ℕ → Entry → List Check
-post_checks s q e =
-    admitted s q e ++ (check (not (is_some (s.pairs q))) 7 ∷ (summable s.pairs e ∷ (check (nat_lt (standing s) s.capacity) 10 ∷ [])))
+-- an entry stands at the quarter, or there is room for one (10)
+abbrev pub room_at : Sheet → ℕ → List Check
+room_at s q = check (is_some (s.pairs q) || nat_lt (standing s) s.capacity) 10 ∷ []
 
--- an amendment: an entry stands at the quarter (8), the sums without it keep their limits (9)
+-- an entry that is new at its quarter: nothing stands there (7), the sums keep their limits (9), there is room (10)
+abbrev pub entry_checks : Sheet → ℕ → Entry → List Check
+entry_checks s q e = check (not (is_some (s.pairs q))) 7 ∷ (summable s.pairs e ∷ (check (nat_lt (standing s) s.capacity) 10 ∷ []))
+
+-- a post: the entry is admitted, and new at its quarter
+abbrev pub post_checks : Sheet → ℕ → Entry → List Check
+post_checks s q e = admitted s q e ++ entry_checks s q e
+
+-- an amendment: the entry is admitted, one stands at the quarter (8), the sums without that keep their limits (9)
 abbrev pub amend_checks : Sheet → ℕ → Entry → List Check
 amend_checks s q e = admitted s q e ++ (check (is_some (s.pairs q)) 8 ∷ (summable (without s.pairs q) e ∷ []))
 
@@ -141,13 +148,17 @@ checks s (fetch q v z1 z2 z3) =
     ∷ (third s.case [] (present Third z3 ∷ []) ++ post_checks s q (fetched s.case v z1 z2 z3)))))
 checks s draw = []
 
+-- the sheet begun anew: in this case and year, with no entry
+abbrev pub begun : Sheet → Case → ℕ → Sheet
+begun s c y = record { reach = s.reach; capacity = s.capacity; case = c; year = y; pairs = no_pairs }
+
 -- the sheet with e at q
 abbrev pub written : Sheet → ℕ → Entry → Sheet
 written s q e = record { reach = s.reach; capacity = s.capacity; case = s.case; year = s.year; pairs = updated s.pairs q e }
 
 -- what an accepted call writes down
 abbrev pub effect : Sheet → Call → Sheet
-effect s (begin k y) = record { reach = s.reach; capacity = s.capacity; case = unwrap_or (case_numbered k) Storage; year = y; pairs = no_pairs }
+effect s (begin k y) = begun s (unwrap_or (case_numbered k) Storage) y
 effect s (post q e) = written s q e
 effect s (amend q e) = written s q e
 effect s (fetch q v z1 z2 z3) = written s q (fetched s.case v z1 z2 z3)

@@ -1,53 +1,54 @@
 //! The book.
-ghost use Rattle.std.specs.Prelude.{◌≡◌};
-ghost use Rattle.figures.specs.Laws.{ImportAddsUp};
-ghost use Rattle.statements.specs.Statements.{statement_of};
-ghost use Rattle.book.specs.Refusals.{refusal_in};
-ghost use Rattle.book.specs.Sheet.{begin, post, amend, draw, drafted, blank, first_failing, admitted, standing};
-ghost use Rattle.book.specs.Sources.{fetch_from};
-ghost use Rattle.book.specs.Books.{sheet_of, Kept, Attends, outcome_of};
-ghost use Rattle.book.specs.Runs.{Lawful};
-ghost use Rattle.book.specs.Steps.{Opened, Settled, Entered, Exchanged, Started};
+ghost use Rattle.book.specs.Order.{sheet_over, InOrder};
 
 use crate::calendar::quarters_of;
 use crate::refusal::Refusal;
-use crate::sources::{Sources, gather};
+use crate::sources::Sources;
 use entries::case::Case;
 use entries::entry::Entry;
 use series::series::{Meter, ValueList};
 use statements::draft::Draft;
 use stores::any_store::covers;
-use stores::store::{PutRefusal, Store};
-use sums::sums::{ReplaceRefusal, Sums};
+use stores::store::Store;
+use sums::sums::Sums;
 
-/// The years that can begin.
+/// The first year that can begin.
 pub const FIRST_YEAR: u64 = 2025;
 
+/// The last year that can begin.
 pub const LAST_YEAR: u64 = 2099;
 
-/// The book of a year, over any store: its case, its year, its standing entries and their sums.
+/// The book of a year, over any store: its case, its year, its standing entries and their sums. The entries are within the case's limits and for quarters
+/// of the year, the sums are theirs, and the store reaches over the year.
 #[derive(Drop)]
 pub struct Book<S: Store> {
     store: S,
     sums: Sums,
     case: Case,
     year: u64,
+    pub ghost in_order: { InOrder (sheet_over S.Store store case year) sums.totals },
 }
 
+#[tactic(auto, unfolding(crate::specs::Sheet::outcome, crate::specs::Sheet::after))]
 impl<S: Store> Book<S> {
+    ghost use Rattle.std.specs.Prelude.{◌≡◌, ◌≤◌, [], ◌∷◌, Some, None};
+    ghost use Rattle.entries.specs.Pairs.{updated, without};
+    ghost use Rattle.figures.specs.Laws.{ImportAddsUp};
+    ghost use Rattle.sums.specs.Year.{totals};
+    ghost use Rattle.book.specs.Books.{sheet_of, Kept, Attends, Steps, outcome_of};
+    ghost use Rattle.book.specs.Calendar.{quarters};
+    ghost use Rattle.book.specs.Refusals.{refusal_in};
+    ghost use Rattle.book.specs.Runs.{Lawful};
+    ghost use Rattle.book.specs.Sheet.{begin, post, amend, draw, drafted, blank, begun, written, first_failing, admitted, room_at, entry_checks, summable};
+    ghost use Rattle.book.specs.Sources.{fetch_from};
+
     /// A new book over a store, which it clears: case 1, and no year yet. Whatever calls follow, each with series of whatever types, they keep the law of
     /// runs.
-    pub fn new(store: S) -> Book<S>
+    #[tactic(auto, using(crate::proofs::Keeping::blank_in_order, crate::proofs::Keeping::unbegun))]
+    pub fn new(mut store: S) -> Book<S>
         ensures sheet { sheet_of S.Store result ≡ blank (S.Store.reach store) (S.Store.capacity store) }
         ensures kept { Kept S.Store result }
         ensures lawful { Lawful S.Store result (S.Store.reach store) (S.Store.capacity store) }
-    {
-        Book::opened(store)
-    }
-
-    // A book without an entry, in no year.
-    fn opened(mut store: S) -> Book<S>
-        ensures { Opened S.Store store result }
     {
         store.clear();
         Book {
@@ -74,52 +75,45 @@ impl<S: Store> Book<S> {
         Ok(())
     }
 
-    // Puts an entry into the store, and takes over the sums that go with it.
+    // Puts an admitted entry into the store, and takes over the sums that go with it.
+    // What admits an entry is the book's case and year: a type for admitted entries would carry both, and each step show that they are still the book's.
     fn settle(&mut self, sums: Sums, quarter: u64, entry: Entry) -> Result<(), Refusal>
-        ensures { Settled S.Store self.old sums.totals quarter entry result self.new }
+        requires admitted { first_failing (admitted (sheet_of S.Store self.old) quarter entry) ≡ None }
+        requires sums { sums.totals ≡ totals (updated (S.Store.pairs self.old.store) quarter entry) }
+        ensures { Steps S.Store self.old (room_at (sheet_of S.Store self.old) quarter) (written (sheet_of S.Store self.old) quarter entry) result self.new }
     {
-        match self.store.put(quarter, entry) {
-            Ok(()) => {
-                self.sums = sums;
-                Ok(())
-            }
-            Err(PutRefusal::Quarter) => Err(Refusal::Quarter),
-            Err(PutRefusal::Full) => Err(Refusal::Full),
-        }
+        self.store.put(quarter, entry)?;
+        self.sums = sums;
+        Ok(())
     }
 
     // Enters an admitted entry at a quarter that has none.
+    #[tactic(auto, using(crate::proofs::Keeping::new_sums))]
     fn enter(&mut self, quarter: u64, entry: Entry) -> Result<(), Refusal>
-        ensures { Entered S.Store self.old quarter entry result self.new }
+        requires { first_failing (admitted (sheet_of S.Store self.old) quarter entry) ≡ None }
+        ensures { Steps S.Store self.old (entry_checks (sheet_of S.Store self.old) quarter entry) (written (sheet_of S.Store self.old) quarter entry) result self.new }
     {
         if self.store.look(quarter).is_some() {
             return Err(Refusal::Standing);
         }
-        match self.sums.plus(entry) {
-            Ok(sums) => self.settle(sums, quarter, entry),
-            Err(mark) => Err(Refusal::Sum(mark)),
-        }
+        let sums = self.sums.plus(entry).map_err(Refusal::Sum)?;
+        self.settle(sums, quarter, entry)
     }
 
     // Puts an admitted entry in the place of the one that stands at the quarter.
     fn exchange(&mut self, quarter: u64, old: Entry, entry: Entry) -> Result<(), Refusal>
-        ensures { Exchanged S.Store self.old quarter old entry result self.new }
+        requires admitted { first_failing (admitted (sheet_of S.Store self.old) quarter entry) ≡ None }
+        requires stands { S.Store.pairs self.old.store quarter ≡ Some old }
+        ensures { Steps S.Store self.old (summable (without (S.Store.pairs self.old.store) quarter) entry ∷ []) (written (sheet_of S.Store self.old) quarter entry) result self.new }
     {
-        let refusal = match self.sums.replace(old, entry) {
-            Ok(sums) => return self.settle(sums, quarter, entry),
-            Err(refusal) => refusal,
-        };
-        match refusal {
-            ReplaceRefusal::Over(mark) => Err(Refusal::Sum(mark)),
-            ReplaceRefusal::NotHeld => Err(Refusal::Absent),
-        }
+        let sums = self.sums.replace(old, entry)?;
+        self.settle(sums, quarter, entry)
     }
 
     // Leaves no entry, and writes down case and year.
     fn start(&mut self, case: Case, year: u64)
-        ensures started { Started S.Store self.old self.new }
-        ensures case { self.new.case ≡ case }
-        ensures year { self.new.year ≡ year }
+        requires { quarters year ≤ S.Store.reach self.old.store }
+        ensures { sheet_of S.Store self.new ≡ begun (sheet_of S.Store self.old) case year }
     {
         self.store.clear();
         self.sums = Sums::new();
@@ -127,23 +121,13 @@ impl<S: Store> Book<S> {
         self.year = year;
     }
 
-    // The draft over the book's own sums.
-    fn draft(&self) -> Draft
-        ensures statement { result.statement ≡ statement_of self.now.case self.now.year (standing (sheet_of S.Store self.now)) self.now.sums.totals }
-        ensures import_adds_up { ImportAddsUp self.now.case result.statement.import result.statement.figures }
-    {
-        Draft::draw_up(self.case, self.year, self.store.count(), &self.sums)
-    }
-
     /// Begins a year: writes down case and year, and leaves no entry.
     /// Refused with CASE outside 1 to 4, then YEAR outside 2025 to 2099, then REACH where the store does not reach over the year.
     pub fn begin(&mut self, case: u64, year: u64) -> Result<(), Refusal>
         ensures { Attends S.Store self.old (begin case year) (outcome_of result) self.new }
     {
-        let Some(case) = Case::from_number(case) else {
-            return Err(Refusal::Case);
-        };
-        if year < FIRST_YEAR || year > LAST_YEAR {
+        let case = Case::try_from(case)?;
+        if !(FIRST_YEAR..=LAST_YEAR).contains(&year) {
             return Err(Refusal::Year);
         }
         if !covers(&self.store, quarters_of(year)) {
@@ -185,7 +169,7 @@ impl<S: Store> Book<S> {
         if quarter >= quarters_of(self.year) {
             return Err(Refusal::Quarter);
         }
-        let entry = gather(self.case, quarter, sources)?;
+        let entry = sources.gather(self.case, quarter)?;
         self.post(quarter, entry)
     }
 
@@ -194,6 +178,6 @@ impl<S: Store> Book<S> {
         ensures answer { Attends S.Store self.now draw (drafted result.statement) self.now }
         ensures import_adds_up { ImportAddsUp self.now.case result.statement.import result.statement.figures }
     {
-        self.draft()
+        Draft::draw_up(self.case, self.year, self.store.count(), &self.sums)
     }
 }

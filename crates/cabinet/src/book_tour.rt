@@ -1,5 +1,5 @@
 //! The book over both makes of store: a year of visits with nested meters, gaps and late corrections, and the edges of the year, the sums and the stores.
-use crate::told::{ToldRefusal, print_answer};
+use crate::told::print_answer;
 use anyhow::anyhow;
 use book::book::Book;
 use book::refusal::Refusal;
@@ -11,9 +11,8 @@ use meters::interval::{IntervalMeter, IntervalRow};
 use meters::register::{RegisterMeter, RegisterRow};
 use meters::sum::SumMeter;
 use meters::transformer::Transformer;
-use series::series::{Meter, ValueList};
 use std::alloc::{AllocError, Global};
-use std::io;
+use std::{fmt, io};
 use stores::slip_box::SlipBox;
 use stores::store::Store;
 use stores::year_table::YearTable;
@@ -31,14 +30,20 @@ struct Site {
     storage: RegisterMeter,
 }
 
-/// A visit as it is planned, before it has its meters.
-#[derive(Clone, Copy)]
-enum Plan {
-    Begin(u64, u64),
-    Post(u64, Entry),
-    Amend(u64, Entry),
-    Fetch(u64),
-    Draw,
+/// A visit to the book of that site.
+type SiteVisit<'a> = Visit<'a, ChangeList, IntervalMeter, Pair, RegisterMeter>;
+
+impl Site {
+    /// A visit that enters what the series of the site have at a quarter.
+    fn fetch(&self, quarter: u64) -> SiteVisit<'_> {
+        let sources = Sources {
+            values: &self.values,
+            first: &self.grid,
+            second: &self.pair,
+            third: &self.storage,
+        };
+        Visit::Fetch(quarter, sources)
+    }
 }
 
 fn row(taken: u64, given: u64, mark: u8) -> IntervalRow {
@@ -122,112 +127,89 @@ fn entry(import: u64, feed_in: u64, drawn: u64, given: u64, value: u64) -> Entry
             feed_in,
             drawn,
             given,
-            storage_drawn: 0,
-            storage_given: 0,
+            ..Readings::default()
         },
         value,
     }
 }
 
-/// The visit that was planned, with the series of a site.
-fn visit_of<'a, V: ValueList, A: Meter, B: Meter, C: Meter>(
-    plan: Plan,
-    sources: &Sources<'a, V, A, B, C>,
-) -> Visit<'a, V, A, B, C> {
-    match plan {
-        Plan::Begin(case, year) => Visit::Begin(case, year),
-        Plan::Post(quarter, entry) => Visit::Post(quarter, entry),
-        Plan::Amend(quarter, entry) => Visit::Amend(quarter, entry),
-        Plan::Fetch(quarter) => Visit::Fetch(
-            quarter,
-            sources.values,
-            sources.first,
-            sources.second,
-            sources.third,
-        ),
-        Plan::Draw => Visit::Draw,
-    }
-}
-
 /// Before a year begins, the begins that are refused, and a year in case 4 with its gaps.
-fn plan_start(plans: &mut Vec<Plan>) -> Result<(), AllocError> {
-    plans.push(Plan::Post(0, entry(1, 0, 0, 0, 700)))?;
-    plans.push(Plan::Draw)?;
-    plans.push(Plan::Begin(5, 2026))?;
-    plans.push(Plan::Begin(4, 2024))?;
-    plans.push(Plan::Begin(4, 2026))?;
+fn plan_start<'a>(visits: &mut Vec<SiteVisit<'a>>, site: &'a Site) -> Result<(), AllocError> {
+    visits.push(Visit::Post(0, entry(1, 0, 0, 0, 700)))?;
+    visits.push(Visit::Draw)?;
+    visits.push(Visit::Begin(5, 2026))?;
+    visits.push(Visit::Begin(4, 2024))?;
+    visits.push(Visit::Begin(4, 2026))?;
     for quarter in 0..6 {
-        plans.push(Plan::Fetch(quarter))?;
+        visits.push(site.fetch(quarter))?;
     }
-    plans.push(Plan::Fetch(35_040))?;
-    plans.push(Plan::Draw)?;
+    visits.push(site.fetch(35_040))?;
+    visits.push(Visit::Draw)?;
     Ok(())
 }
 
 /// Late corrections, and what is refused on the way.
-fn plan_corrections(plans: &mut Vec<Plan>) -> Result<(), AllocError> {
-    plans.push(Plan::Fetch(1))?;
-    plans.push(Plan::Post(3, entry(0, 1_000_001, 0, 0, 700)))?;
-    plans.push(Plan::Post(3, entry(0, 0, 0, 0, 100_001)))?;
-    plans.push(Plan::Amend(3, entry(7, 0, 7, 0, 700)))?;
-    plans.push(Plan::Post(3, entry(7, 0, 7, 0, 700)))?;
-    plans.push(Plan::Amend(3, entry(9, 0, 7, 0, 700)))?;
-    plans.push(Plan::Post(35_039, entry(0, 4, 0, 0, 0)))?;
-    plans.push(Plan::Post(35_040, entry(0, 4, 0, 0, 0)))?;
-    plans.push(Plan::Draw)?;
+fn plan_corrections<'a>(visits: &mut Vec<SiteVisit<'a>>, site: &'a Site) -> Result<(), AllocError> {
+    visits.push(site.fetch(1))?;
+    visits.push(Visit::Post(3, entry(0, 1_000_001, 0, 0, 700)))?;
+    visits.push(Visit::Post(3, entry(0, 0, 0, 0, 100_001)))?;
+    visits.push(Visit::Amend(3, entry(7, 0, 7, 0, 700)))?;
+    visits.push(Visit::Post(3, entry(7, 0, 7, 0, 700)))?;
+    visits.push(Visit::Amend(3, entry(9, 0, 7, 0, 700)))?;
+    visits.push(Visit::Post(35_039, entry(0, 4, 0, 0, 0)))?;
+    visits.push(Visit::Post(35_040, entry(0, 4, 0, 0, 0)))?;
+    visits.push(Visit::Draw)?;
     Ok(())
 }
 
 /// A leap year in case 1, where the storage has no meter of its own.
-fn plan_leap_year(plans: &mut Vec<Plan>) -> Result<(), AllocError> {
-    plans.push(Plan::Begin(1, 2028))?;
-    plans.push(Plan::Fetch(0))?;
-    plans.push(Plan::Post(35_135, entry(0, 3, 0, 0, 700)))?;
-    plans.push(Plan::Post(35_136, entry(0, 3, 0, 0, 700)))?;
-    plans.push(Plan::Amend(0, entry(100, 0, 100, 0, 700)))?;
-    plans.push(Plan::Draw)?;
+fn plan_leap_year<'a>(visits: &mut Vec<SiteVisit<'a>>, site: &'a Site) -> Result<(), AllocError> {
+    visits.push(Visit::Begin(1, 2028))?;
+    visits.push(site.fetch(0))?;
+    visits.push(Visit::Post(35_135, entry(0, 3, 0, 0, 700)))?;
+    visits.push(Visit::Post(35_136, entry(0, 3, 0, 0, 700)))?;
+    visits.push(Visit::Amend(0, entry(100, 0, 100, 0, 700)))?;
+    visits.push(Visit::Draw)?;
     Ok(())
 }
 
-fn plan_all(heap: Global) -> Result<Vec<Plan>, AllocError> {
-    let mut plans = Vec::new(heap);
-    plan_start(&mut plans)?;
-    plan_corrections(&mut plans)?;
-    plan_leap_year(&mut plans)?;
-    Ok(plans)
+fn plan_all(heap: Global, site: &Site) -> Result<Vec<SiteVisit<'_>>, AllocError> {
+    let mut visits = Vec::new(heap);
+    plan_start(&mut visits, site)?;
+    plan_corrections(&mut visits, site)?;
+    plan_leap_year(&mut visits, site)?;
+    Ok(visits)
 }
 
-/// Prints what a visit asked.
-fn print_plan(rt: &HostRuntime, plan: Plan) -> io::Result<()> {
-    match plan {
-        Plan::Begin(case, year) => print!(rt; "begin {case} {year}"),
-        Plan::Post(quarter, _) => print!(rt; "post {quarter}"),
-        Plan::Amend(quarter, _) => print!(rt; "amend {quarter}"),
-        Plan::Fetch(quarter) => print!(rt; "fetch {quarter}"),
-        Plan::Draw => print!(rt; "draw"),
+/// What a visit asks.
+#[derive(Clone, Copy)]
+struct Asked<'a>(&'a SiteVisit<'a>);
+
+impl fmt::Display for Asked<'_> {
+    fn fmt<W: fmt::Write>(&self, f: &mut fmt::Formatter<W>) -> fmt::Result {
+        match self.0 {
+            Visit::Begin(case, year) => write!(f, "begin {case} {year}"),
+            Visit::Post(quarter, _) => write!(f, "post {quarter}"),
+            Visit::Amend(quarter, _) => write!(f, "amend {quarter}"),
+            Visit::Fetch(quarter, _) => write!(f, "fetch {quarter}"),
+            Visit::Draw => write!(f, "draw"),
+        }
     }
 }
 
-/// Attends the planned visits with a book over the store, and prints every answer.
-fn visit_all<'a, S: Store + Drop, V: ValueList, A: Meter, B: Meter, C: Meter>(
+/// Attends the visits with a book over the store, and prints every answer.
+fn visit_all<S: Store + Drop>(
     rt: &HostRuntime,
     store: S,
-    plans: &[Plan],
-    sources: &Sources<'a, V, A, B, C>,
+    visits: &[SiteVisit<'_>],
 ) -> anyhow::Result<usize> {
-    let mut visits: Vec<Visit<'a, V, A, B, C>> = Vec::new(rt.alloc());
-    for plan in plans {
-        visits.push(visit_of(*plan, sources))?;
-    }
-    let Ok(attended) = attend_all(rt.alloc(), store, &visits) else {
+    let Ok(attended) = attend_all(rt.alloc(), store, visits) else {
         return Err(anyhow!("no memory for the answers"));
     };
-    let count = attended.answers.len();
-    for (plan, answer) in plans.iter().zip(attended.answers.iter()) {
-        print_plan(rt, *plan)?;
-        print_answer(rt, "", answer)?;
+    for (visit, answer) in visits.iter().zip(attended.answers.iter()) {
+        print_answer(rt, Asked(visit), answer)?;
     }
-    Ok(count)
+    Ok(attended.answers.len())
 }
 
 /// Posts 3,000 quarters of 1,000,000 Wh import each, and then 1 Wh more.
@@ -241,49 +223,41 @@ fn sum_limit(rt: &HostRuntime) -> anyhow::Result<()> {
         }
     }
     println!(rt; "{accepted} entries of 1000000 Wh import accepted")?;
-    print_refusal(rt, "one Wh more", book.post(3_000, entry(1, 0, 0, 0, 700)))?;
-    print_refusal(
+    print_call(rt, "one Wh more", book.post(3_000, entry(1, 0, 0, 0, 700)))?;
+    print_call(
         rt,
         "one Wh for one that stands",
         book.amend(2_999, entry(1, 0, 0, 0, 700)),
     )?;
-    print_refusal(rt, "one Wh more", book.post(3_000, entry(1, 0, 0, 0, 700)))?;
+    print_call(rt, "one Wh more", book.post(3_000, entry(1, 0, 0, 0, 700)))?;
     Ok(())
 }
 
-fn print_refusal(rt: &HostRuntime, what: &str, answer: Result<(), Refusal>) -> io::Result<()> {
-    match answer {
-        Ok(()) => println!(rt; "{what}: accepted"),
-        Err(refusal) => println!(rt; "{what}: {}", ToldRefusal(refusal)),
-    }
+/// Prints what a call that draws nothing was answered.
+fn print_call(rt: &HostRuntime, what: &str, answer: Result<(), Refusal>) -> io::Result<()> {
+    print_answer(rt, what, &answer.map(|()| None))
 }
 
 /// A store that does not reach over the year, and one that fills up.
 fn store_limits(rt: &HostRuntime) -> anyhow::Result<()> {
     let mut book = Book::new(YearTable::new(rt.alloc(), 35_039)?);
-    print_refusal(rt, "35039 places, begin 1 2026", book.begin(1, 2026))?;
+    print_call(rt, "35039 places, begin 1 2026", book.begin(1, 2026))?;
     let mut book = Book::new(SlipBox::new(rt.alloc(), 1)?);
-    print_refusal(rt, "1 slip, begin 1 2026", book.begin(1, 2026))?;
-    print_refusal(rt, "1 slip, post 7", book.post(7, entry(1, 0, 0, 0, 700)))?;
-    print_refusal(rt, "1 slip, post 8", book.post(8, entry(1, 0, 0, 0, 700)))?;
-    print_refusal(rt, "1 slip, amend 7", book.amend(7, entry(2, 0, 0, 0, 700)))?;
+    print_call(rt, "1 slip, begin 1 2026", book.begin(1, 2026))?;
+    print_call(rt, "1 slip, post 7", book.post(7, entry(1, 0, 0, 0, 700)))?;
+    print_call(rt, "1 slip, post 8", book.post(8, entry(1, 0, 0, 0, 700)))?;
+    print_call(rt, "1 slip, amend 7", book.amend(7, entry(2, 0, 0, 0, 700)))?;
     Ok(())
 }
 
 /// The whole tour.
 pub(crate) fn run(rt: &HostRuntime) -> anyhow::Result<()> {
     let site = make_site(rt.alloc())?;
+    let visits = plan_all(rt.alloc(), &site)?;
     println!(rt; "a year of visits over a year table")?;
-    let sources = Sources {
-        values: &site.values,
-        first: &site.grid,
-        second: &site.pair,
-        third: &site.storage,
-    };
-    let plans = plan_all(rt.alloc())?;
-    let table = visit_all(rt, YearTable::new(rt.alloc(), 35_136)?, &plans, &sources)?;
+    let table = visit_all(rt, YearTable::new(rt.alloc(), 35_136)?, &visits)?;
     println!(rt; "the same visits over a slip box of 4")?;
-    let slips = visit_all(rt, SlipBox::new(rt.alloc(), 4)?, &plans, &sources)?;
+    let slips = visit_all(rt, SlipBox::new(rt.alloc(), 4)?, &visits)?;
     sum_limit(rt)?;
     store_limits(rt)?;
     println!(rt;

@@ -6,12 +6,8 @@ mod series_tour;
 mod stores_tour;
 mod told;
 
-fn run(rt: &HostRuntime) -> anyhow::Result<()> {
-    stores_tour::run(rt)?;
-    series_tour::run(rt)?;
-    book_tour::run(rt)
-}
-
 fn main(rt: HostRuntime) -> anyhow::Result<()> {
-    run(&rt)
+    stores_tour::run(&rt)?;
+    series_tour::run(&rt)?;
+    book_tour::run(&rt)
 }

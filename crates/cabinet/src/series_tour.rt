@@ -12,6 +12,7 @@ use series::series::{Meter, Series, ValueList};
 use series::total::{NoTotal, energy_over};
 use std::alloc::{AllocError, Global};
 use std::io;
+use std::ops::Range;
 
 /// Two meters behind one transformer.
 type Site = Transformer<SumMeter<IntervalMeter, RegisterMeter>>;
@@ -91,42 +92,33 @@ fn full_list(heap: Global) -> Result<FullValueList, AllocError> {
     Ok(FullValueList { rows })
 }
 
-/// Prints a fault by its number and its values.
-fn print_fault(rt: &HostRuntime, what: &str, fault: Fault) -> io::Result<()> {
-    let number = fault.cause.number();
-    let (quarter, depth) = fault.values();
-    println!(rt; "{what}: fault {number}, quarter {quarter}, depth {depth}")
-}
-
 /// Prints what a meter reads in a span.
 fn print_readings<M: Meter>(
     rt: &HostRuntime,
     what: &str,
     meter: &M,
-    from: u64,
-    to: u64,
+    span: Range<u64>,
 ) -> io::Result<()> {
-    for quarter in from..to {
+    for quarter in span {
         match meter.read(quarter) {
             Ok((taken, given)) => println!(rt; "{what} {quarter}: taken {taken}, given {given}")?,
-            Err(fault) => print_fault(rt, what, fault)?,
+            Err(fault) => println!(rt; "{what}: {fault}")?,
         }
     }
     Ok(())
 }
 
-/// Prints what a value list has in a span.
+/// Prints what a value list has in a span. A reading and a value are told in other words, so this and the function above stay two.
 fn print_values<L: ValueList>(
     rt: &HostRuntime,
     what: &str,
     list: &L,
-    from: u64,
-    to: u64,
+    span: Range<u64>,
 ) -> io::Result<()> {
-    for quarter in from..to {
+    for quarter in span {
         match list.value(quarter) {
             Ok(value) => println!(rt; "{what} {quarter}: {value}")?,
-            Err(fault) => print_fault(rt, what, fault)?,
+            Err(fault) => println!(rt; "{what}: {fault}")?,
         }
     }
     Ok(())
@@ -137,16 +129,13 @@ fn print_gap<S: Series>(
     rt: &HostRuntime,
     what: &str,
     series: &S,
-    from: u64,
-    to: u64,
+    span: Range<u64>,
 ) -> io::Result<()> {
-    match first_gap(series, from, to) {
-        Ok(None) => println!(rt; "{what} {from}..{to}: no gap"),
-        Ok(Some(fault)) => print_fault(rt, what, fault),
-        Err(refusal) => {
-            let number = refusal.number();
-            println!(rt; "{what} {from}..{to}: refused {number}")
-        }
+    let Range { start, end } = span;
+    match first_gap(series, start..end) {
+        Ok(None) => println!(rt; "{what} {start}..{end}: no gap"),
+        Ok(Some(fault)) => println!(rt; "{what}: {fault}"),
+        Err(refusal) => println!(rt; "{what} {start}..{end}: {refusal}"),
     }
 }
 
@@ -155,55 +144,52 @@ fn print_energy<M: Meter>(
     rt: &HostRuntime,
     what: &str,
     meter: &M,
-    from: u64,
-    to: u64,
+    span: Range<u64>,
 ) -> io::Result<()> {
-    match energy_over(meter, from, to) {
-        Ok((taken, given)) => println!(rt; "{what} {from}..{to}: taken {taken}, given {given}"),
-        Err(NoTotal::Gap(fault)) => print_fault(rt, what, fault),
-        Err(NoTotal::Refused(refusal)) => {
-            let number = refusal.number();
-            println!(rt; "{what} {from}..{to}: refused {number}")
-        }
+    let Range { start, end } = span;
+    match energy_over(meter, start..end) {
+        Ok((taken, given)) => println!(rt; "{what} {start}..{end}: taken {taken}, given {given}"),
+        Err(NoTotal::Gap(fault)) => println!(rt; "{what}: {fault}"),
+        Err(NoTotal::Refused(refusal)) => println!(rt; "{what} {start}..{end}: {refusal}"),
     }
 }
 
 /// The meters: items and faults of every cause and depth, also past the rows.
 fn meters(rt: &HostRuntime) -> io::Result<()> {
     let meter = site(rt.alloc(), 40)?;
-    print_readings(rt, "site", &meter, 0, 10)?;
-    print_readings(rt, "site", &meter, u64::MAX - 1, u64::MAX)?;
+    print_readings(rt, "site", &meter, 0..10)?;
+    print_readings(rt, "site", &meter, u64::MAX - 1..u64::MAX)?;
     let meter = site(rt.alloc(), 10_001)?;
-    print_readings(rt, "bad factor", &meter, 4, 5)
+    print_readings(rt, "bad factor", &meter, 4..5)
 }
 
 /// The value lists: items and faults.
 fn lists(rt: &HostRuntime) -> io::Result<()> {
-    print_values(rt, "changes", &changes(rt.alloc())?, 3, 9)?;
-    print_values(rt, "full list", &full_list(rt.alloc())?, 0, 6)
+    print_values(rt, "changes", &changes(rt.alloc())?, 3..9)?;
+    print_values(rt, "full list", &full_list(rt.alloc())?, 0..6)
 }
 
 /// The gaps of spans, at a meter and at both kinds of value list.
 fn gaps(rt: &HostRuntime) -> io::Result<()> {
     let meter = site(rt.alloc(), 40)?;
-    print_gap(rt, "site's gap", &meter, 0, 10)?;
-    print_gap(rt, "site's gap", &meter, 3, 10)?;
-    print_gap(rt, "site's gap", &meter, 4, 6)?;
-    print_gap(rt, "site's gap", &meter, 6, 4)?;
-    print_gap(rt, "site's gap", &meter, 4, 35_137)?;
+    print_gap(rt, "site's gap", &meter, 0..10)?;
+    print_gap(rt, "site's gap", &meter, 3..10)?;
+    print_gap(rt, "site's gap", &meter, 4..6)?;
+    print_gap(rt, "site's gap", &meter, 6..4)?;
+    print_gap(rt, "site's gap", &meter, 4..35_137)?;
     let list = changes(rt.alloc())?;
-    print_gap(rt, "changes' gap", &list, 0, 8)?;
-    print_gap(rt, "changes' gap", &list, 4, 8)?;
-    print_gap(rt, "full list's gap", &full_list(rt.alloc())?, 0, 35_136)
+    print_gap(rt, "changes' gap", &list, 0..8)?;
+    print_gap(rt, "changes' gap", &list, 4..8)?;
+    print_gap(rt, "full list's gap", &full_list(rt.alloc())?, 0..35_136)
 }
 
 /// The energy of spans.
 fn energies(rt: &HostRuntime) -> io::Result<()> {
     let meter = site(rt.alloc(), 40)?;
-    print_energy(rt, "energy", &meter, 0, 2)?;
-    print_energy(rt, "energy", &meter, 0, 10)?;
-    print_energy(rt, "energy", &meter, 4, 4)?;
-    print_energy(rt, "energy", &meter, 0, 35_137)
+    print_energy(rt, "energy", &meter, 0..2)?;
+    print_energy(rt, "energy", &meter, 0..10)?;
+    print_energy(rt, "energy", &meter, 4..4)?;
+    print_energy(rt, "energy", &meter, 0..35_137)
 }
 
 /// A fault under more layers than its depth can tell.
@@ -212,7 +198,7 @@ fn deep_fault(rt: &HostRuntime) -> io::Result<()> {
     for _ in 0..300 {
         fault = fault.raise();
     }
-    print_fault(rt, "300 layers up", fault)
+    println!(rt; "300 layers up: {fault}")
 }
 
 /// The whole tour.

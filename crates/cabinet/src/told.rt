@@ -1,53 +1,9 @@
-//! Refusals and answers as they are told: by name, number and values.
-use book::refusal::Refusal;
-use series::fault::Cause;
+//! Answers and statements as they are told.
 use statements::statement::Statement;
-use std::fmt;
+use std::{fmt, io};
 use visits::visits::Answer;
 
-/// A refusal's name.
-fn name_of(refusal: Refusal) -> &'static str {
-    match refusal {
-        Refusal::Case => "CASE",
-        Refusal::Year => "YEAR",
-        Refusal::Reach => "REACH",
-        Refusal::Quarter => "QUARTER",
-        Refusal::Reading(_) => "READING",
-        Refusal::Value => "VALUE",
-        Refusal::Standing => "STANDING",
-        Refusal::Absent => "ABSENT",
-        Refusal::Sum(_) => "SUM",
-        Refusal::Full => "FULL",
-        Refusal::Series(_, fault) => match fault.cause {
-            Cause::Missing => "MISSING",
-            Cause::Fell => "FELL",
-            Cause::TooBig => "TOO BIG",
-        },
-    }
-}
-
-/// A refusal as it is told.
-#[derive(Clone, Copy)]
-pub struct ToldRefusal(pub Refusal);
-
-impl fmt::Display for ToldRefusal {
-    fn fmt<W: fmt::Write>(&self, f: &mut fmt::Formatter<W>) -> fmt::Result {
-        let name = name_of(self.0);
-        let number = self.0.number();
-        write!(f, "{name} ({number})")?;
-        match self.0 {
-            Refusal::Reading(mark) | Refusal::Sum(mark) => write!(f, ", mark {}", mark.number()),
-            Refusal::Series(source, fault) => {
-                let (quarter, depth) = fault.values();
-                let series = source.number();
-                write!(f, ", series {series}, quarter {quarter}, depth {depth}")
-            }
-            _ => Ok(()),
-        }
-    }
-}
-
-/// A statement as it is told.
+/// A statement as it is told here: in words, where its own print is a line of values.
 #[derive(Clone, Copy)]
 pub struct ToldStatement(pub Statement);
 
@@ -68,10 +24,14 @@ impl fmt::Display for ToldStatement {
 }
 
 /// Prints an answer under what was asked.
-pub(crate) fn print_answer(rt: &HostRuntime, what: &str, answer: &Answer) -> std::io::Result<()> {
+pub(crate) fn print_answer<W: fmt::Display + Drop>(
+    rt: &HostRuntime,
+    what: W,
+    answer: &Answer,
+) -> io::Result<()> {
     match answer {
-        Answer::Accepted => println!(rt; "{what}: accepted"),
-        Answer::Refused(refusal) => println!(rt; "{what}: {}", ToldRefusal(*refusal)),
-        Answer::Drafted(draft) => println!(rt; "{what}: {}", ToldStatement(draft.statement())),
+        Ok(None) => println!(rt; "{what}: accepted"),
+        Ok(Some(draft)) => println!(rt; "{what}: {}", ToldStatement(draft.statement())),
+        Err(refusal) => println!(rt; "{what}: {refusal}"),
     }
 }

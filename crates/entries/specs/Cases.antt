@@ -1,6 +1,7 @@
 -- The four metering cases.
-use Rattle.std.specs.Prelude.{ℕ, cond, Some, None, Option, ◌==◌}
+use Rattle.std.specs.Prelude.{ℕ, cond, Some, None, Ok, Err, Option, Result, ◌==◌}
 use Rattle.entries.specs.declared.case.Case.{Case}
+use Rattle.entries.specs.declared.case.NoSuchCase.{NoSuchCase}
 use Rattle.entries.specs.declared.case.Case.TheVariants.{Storage, ChargePoint, Both, BothMetered}
 use Rattle.entries.specs.declared.readings.Readings.{Readings}
 
@@ -18,6 +19,15 @@ case_numbered n =
     (cond (n == 2) (Some ChargePoint)
     (cond (n == 3) (Some Both)
     (cond (n == 4) (Some BothMetered) None)))
+
+-- that case, or the number that no case has
+abbrev pub case_or_number : Option Case → ℕ → Result Case NoSuchCase
+case_or_number None n = Err (record { 0 = n })
+case_or_number (Some c) n = Ok c
+
+-- what a number is read as: the case that it numbers
+abbrev pub case_read : ℕ → Result Case NoSuchCase
+case_read n = case_or_number (case_numbered n) n
 
 -- the most that a reading of the storage alone may be: 0 without a meter of its own
 abbrev pub storage_limit : Case → ℕ

@@ -1,49 +1,51 @@
 //! The four ways in which a site is metered.
 ghost use Rattle.std.specs.Prelude.{◌≡◌};
-ghost use Rattle.entries.specs.Cases.{case_number, case_numbered, reading_limits};
+ghost use Rattle.entries.specs.Cases.{case_number, case_read, reading_limits};
 
 use crate::readings::Readings;
 
 /// No reading of a quarter-hour is over this, in Wh.
 pub const READING_LIMIT: u64 = 1_000_000;
 
-/// What stands behind the site's second meter. The cases are numbered 1 to 4, in this order.
+/// What stands behind the site's second meter.
 #[derive(Clone, Copy, PartialEq, Eq, Debug)]
 pub enum Case {
     /// Storage.
-    Storage,
+    Storage = 1,
     /// A charge point that feeds back.
-    ChargePoint,
+    ChargePoint = 2,
     /// Storage and charge point.
-    Both,
+    Both = 3,
     /// Storage and charge point, and a third meter for the storage alone.
-    BothMetered,
+    BothMetered = 4,
+}
+
+/// A number that no case has.
+#[derive(Clone, Copy, PartialEq, Eq, Debug)]
+pub struct NoSuchCase(pub u64);
+
+impl TryFrom<u64> for Case {
+    type Error = NoSuchCase;
+
+    ghost try_from_gives = { λ number read. read ≡ case_read number };
+
+    fn try_from(number: u64) -> Result<Case, NoSuchCase> {
+        match number {
+            1 => Ok(Case::Storage),
+            2 => Ok(Case::ChargePoint),
+            3 => Ok(Case::Both),
+            4 => Ok(Case::BothMetered),
+            _ => Err(NoSuchCase(number)),
+        }
+    }
 }
 
 impl Case {
-    /// The case with this number, 1 to 4.
-    pub fn from_number(number: u64) -> Option<Case>
-        ensures { result ≡ case_numbered number }
-    {
-        match number {
-            1 => Some(Case::Storage),
-            2 => Some(Case::ChargePoint),
-            3 => Some(Case::Both),
-            4 => Some(Case::BothMetered),
-            _ => None,
-        }
-    }
-
     /// The case's number, 1 to 4.
     pub fn number(self) -> u64
         ensures { result ≡ case_number self }
     {
-        match self {
-            Case::Storage => 1,
-            Case::ChargePoint => 2,
-            Case::Both => 3,
-            Case::BothMetered => 4,
-        }
+        self as u64
     }
 
     /// The most that each reading of a quarter may be: without a meter for the storage alone its two readings must be 0.

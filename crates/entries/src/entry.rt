@@ -10,7 +10,7 @@ pub const VALUE_LIMIT: u64 = 100_000;
 
 /// The readings of a quarter-hour, and AW, the plant's applicable value in it, in hundredths of a cent per kWh.
 /// A quarter with value 0 is a zero-time.
-#[derive(Clone, Copy)]
+#[derive(Clone, Copy, PartialEq, Eq, Default, Debug)]
 pub struct Entry {
     pub readings: Readings,
     pub value: u64,

@@ -1,22 +1,22 @@
 //! The six readings of a site's meters, and the marks they go by.
-ghost use Rattle.std.specs.Prelude.{◌≡◌, nat_lt};
-ghost use Rattle.entries.specs.Marks.{mark_number, reading, lowest, lowest_over};
+ghost use Rattle.std.specs.Prelude.{◌≡◌};
+ghost use Rattle.entries.specs.Marks.{mark_number, lowest_over};
 
-/// The mark of a reading. The marks are numbered 1 to 6, in this order.
+/// The mark of a reading.
 #[derive(Clone, Copy, PartialEq, Eq, Debug)]
 pub enum Mark {
     /// Z1NB, drawn from the grid.
-    Import,
+    Import = 1,
     /// Z1NE, fed into the grid.
-    FeedIn,
+    FeedIn = 2,
     /// Z2V, drawn by storage and charge point.
-    Drawn,
+    Drawn = 3,
     /// Z2E, given by storage and charge point.
-    Given,
+    Given = 4,
     /// Z3V, drawn by the storage alone.
-    StorageDrawn,
+    StorageDrawn = 5,
     /// Z3E, given by the storage alone.
-    StorageGiven,
+    StorageGiven = 6,
 }
 
 impl Mark {
@@ -24,19 +24,12 @@ impl Mark {
     pub fn number(self) -> u64
         ensures { result ≡ mark_number self }
     {
-        match self {
-            Mark::Import => 1,
-            Mark::FeedIn => 2,
-            Mark::Drawn => 3,
-            Mark::Given => 4,
-            Mark::StorageDrawn => 5,
-            Mark::StorageGiven => 6,
-        }
+        self as u64
     }
 }
 
 /// An amount in Wh for each mark: the readings of one quarter, their sums over quarters, or their limits.
-#[derive(Clone, Copy)]
+#[derive(Clone, Copy, PartialEq, Eq, Default, Debug)]
 pub struct Readings {
     pub import: u64,
     pub feed_in: u64,
@@ -48,15 +41,10 @@ pub struct Readings {
 
 impl Readings {
     /// The lowest mark whose amount is over its limit.
+    // Written out: a search over the six marks would look up each amount by a match.
+    #[tactic(auto, unfolding(crate::specs::Marks::lowest_over))]
     pub fn lowest_over(self, limits: Readings) -> Option<Mark>
         ensures { result ≡ lowest_over limits self }
-    {
-        self.first_over(limits)
-    }
-
-    // The comparisons of `lowest_over`, promised mark by mark.
-    fn first_over(self, limits: Readings) -> Option<Mark>
-        ensures { result ≡ lowest (λ m. nat_lt (reading m limits) (reading m self)) }
     {
         if self.import > limits.import {
             Some(Mark::Import)

@@ -6,7 +6,7 @@ use Rattle.entries.specs.declared.case.Case.{Case}
 use Rattle.entries.specs.declared.case.Case.TheVariants.{Storage, ChargePoint, Both, BothMetered}
 use Rattle.sums.specs.declared.totals.Totals.{Totals}
 use Rattle.sums.specs.Sums.{Balanced}
-use Rattle.figures.specs.Figures.{total_draw, foreign_energy, share, remainder, signed_share, nettable_of, loss_of, figures_of}
+use Rattle.figures.specs.Figures.{total_draw, foreign_energy, share, remainder, signed_share, nettable_of, fund_stored_of, zero_stored_of, foreign_of, loose_of, loss_of, figures_of}
 use Rattle.figures.specs.Laws.{FeedInAddsUp, ImportAddsUp}
 use Rattle.figures.proofs.Shares.{shares_add_up, four_remainders, share_le, two_shares_le, left_over}
 
@@ -14,18 +14,26 @@ stored_within : (t : Totals) → Balanced t → t.stored_feed_in ≤ total_draw 
 unfolding total_draw
 stored_within t b = omega arith
 
-pub feed_in_adds_up : (c : Case) (t : Totals) → Balanced t → FeedInAddsUp t.readings.feed_in (figures_of c t)
-unfolding figures_of total_draw share remainder
-feed_in_adds_up c t b =
-    let parts : t.grid_draw + t.plant_draw + foreign_energy t ≡ total_draw t = omega arith in (
-      omega (
-        arith,
-        shares_add_up t.grid_draw t.plant_draw (foreign_energy t) t.stored_feed_in t.paid_stored t.zero_stored (total_draw t)
-            parts b.2 (stored_within t b),
-      ),
-      four_remainders (t.grid_draw * t.stored_feed_in) (t.plant_draw * t.paid_stored) (t.plant_draw * t.zero_stored)
-          (foreign_energy t * t.stored_feed_in) (total_draw t),
+pub feed_in_is : (t : Totals) → Balanced t
+    → nettable_of t + t.paid_direct + t.zero_direct + fund_stored_of t + zero_stored_of t + foreign_of t + loose_of t ≡ t.readings.feed_in
+unfolding total_draw share remainder
+feed_in_is t b =
+    let parts : t.grid_draw + t.plant_draw + foreign_energy t ≡ total_draw t = omega arith in
+    omega (
+      arith,
+      shares_add_up t.grid_draw t.plant_draw (foreign_energy t) t.stored_feed_in t.paid_stored t.zero_stored (total_draw t)
+          parts b.2 (stored_within t b),
     )
+
+pub loose_most : (t : Totals) → loose_of t ≤ 3
+unfolding remainder
+loose_most t =
+    four_remainders (t.grid_draw * t.stored_feed_in) (t.plant_draw * t.paid_stored) (t.plant_draw * t.zero_stored)
+    (foreign_energy t * t.stored_feed_in) (total_draw t)
+
+pub feed_in_adds_up : (c : Case) (t : Totals) → Balanced t → FeedInAddsUp t.readings.feed_in (figures_of c t)
+unfolding figures_of
+feed_in_adds_up c t b = (omega (arith, feed_in_is t b), loose_most t)
 
 nettable_within : (t : Totals) → Balanced t → nettable_of t ≤ t.grid_draw
 unfolding share

@@ -1,7 +1,7 @@
 //! The figures of a year's statement.
 
 /// The figures of a year's statement, in Wh.
-#[derive(Clone, Copy, PartialEq, Eq, Debug)]
+#[derive(Clone, Copy, PartialEq, Eq, Default, Debug)]
 pub struct Figures {
     /// Stored feed-in that had been imported before: no levies are due on it.
     pub nettable: u64,

@@ -2,4 +2,5 @@
 #![tactic(auto)]
 
 pub mod figures;
+mod share;
 pub mod split;

@@ -1,5 +1,6 @@
 -- How an input ends: each of its lines in turn is read, and spells a call that the sheet kept by hand answers; the first refusal ends it.
 use Rattle.std.specs.Prelude.{ℕ, ◌+◌, Bool, true, false, List, [], ◌∷◌, None, Ok, Err, Result}
+use Rattle.arrayvec.specs.ArrayString.{ArrayString}
 use Rattle.lines.specs.declared.column.Column.{Column}
 use Rattle.lines.specs.declared.misread.Misread.{Misread}
 use Rattle.lines.specs.Misreads.{misread_number, misread_column}
@@ -73,3 +74,8 @@ output_text (refused_at n k vs) = refusal_text k n (place_beside vs)
 abbrev pub is_refused : Ending → Bool
 is_refused (stated d) = false
 is_refused (refused_at n k vs) = true
+
+-- the text of an answer: of the statement, or of the refusal
+abbrev pub told : Result ArrayString ArrayString → List ℕ
+told (Ok text) = text.bytes
+told (Err text) = text.bytes

@@ -1,4 +1,3 @@
 pub mod Endings
 pub mod Laws
 pub mod Stops
-pub mod Outputs

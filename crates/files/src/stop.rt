@@ -1,14 +1,17 @@
 //! The line at which an input stops.
-ghost use Rattle.std.specs.Prelude.{◌≡◌};
+ghost use Rattle.std.specs.Prelude.{◌≡◌, Ok, Err, MatchResult};
 ghost use Rattle.book.specs.Refusals.{refusal_values};
 ghost use Rattle.files.specs.Endings.{place_beside, lacking_line};
-ghost use Rattle.files.specs.Stops.{stopped_number, stopped_values, at_line, told_at, stop_end};
+ghost use Rattle.files.specs.declared.stop.Cause.{Cause};
+ghost use Rattle.files.specs.declared.stop.Cause.TheVariants.{Misread as Unread, Refused};
+ghost use Rattle.files.specs.Stops.{stopped_number, stopped_values, stop_at, stop_end, note_of};
 
 use book::refusal::Refusal;
 use lines::misread::Misread;
+use statements::refusal_note::RefusalNote;
 
 /// Why a line stops an input.
-#[derive(Clone, Copy)]
+#[derive(Clone, Copy, PartialEq, Eq, Debug)]
 pub(crate) enum Cause {
     /// It cannot be read.
     Misread(Misread),
@@ -17,10 +20,26 @@ pub(crate) enum Cause {
 }
 
 /// The line at which an input stops, counted from 1, and why.
-#[derive(Clone, Copy)]
+#[derive(Clone, Copy, PartialEq, Eq, Debug)]
 pub(crate) struct Stop {
     pub(crate) line: u64,
     pub(crate) cause: Cause,
+}
+
+impl From<Misread> for Cause {
+    ghost from_gives = { λ misread cause. cause ≡ Unread misread };
+
+    fn from(misread: Misread) -> Cause {
+        Cause::Misread(misread)
+    }
+}
+
+impl From<Refusal> for Cause {
+    ghost from_gives = { λ refusal cause. cause ≡ Refused refusal };
+
+    fn from(refusal: Refusal) -> Cause {
+        Cause::Refused(refusal)
+    }
 }
 
 impl Cause {
@@ -45,6 +64,19 @@ impl Cause {
     }
 }
 
+impl Stop {
+    /// What is told of the stop.
+    pub(crate) fn note(self) -> RefusalNote
+        ensures { result ≡ note_of self }
+    {
+        RefusalNote {
+            number: self.cause.number(),
+            line: self.line,
+            place: self.cause.place(),
+        }
+    }
+}
+
 // The mark that a refusal of the book names, or 0.
 fn place_of(refusal: Refusal) -> u64
     ensures { result ≡ place_beside (refusal_values refusal) }
@@ -65,28 +97,12 @@ pub(crate) fn lacking(line: u64) -> Stop
     }
 }
 
-/// What was read of a line, or the stop at it.
-pub(crate) fn read_at<T>(line: u64, answer: Result<T, Misread>) -> Result<T, Stop>
-    ensures { result ≡ at_line line answer }
+/// An answer about a line, or the stop at it.
+pub(crate) fn at_line<T, E: Into<Cause>>(line: u64, answer: Result<T, E>) -> Result<T, Stop>
+    ensures { MatchResult answer (λ x. result ≡ Ok x) (λ e. (cause : Cause) × E.converts e cause × (result ≡ Err (stop_at line cause))) }
 {
-    match answer {
-        Ok(item) => Ok(item),
-        Err(misread) => Err(Stop {
-            line,
-            cause: Cause::Misread(misread),
-        }),
-    }
-}
-
-/// The book's answer to the call that a line spells, or the stop at it.
-pub(crate) fn answered_at(line: u64, answer: Result<(), Refusal>) -> Result<(), Stop>
-    ensures { result ≡ told_at line answer }
-{
-    match answer {
-        Ok(()) => Ok(()),
-        Err(refusal) => Err(Stop {
-            line,
-            cause: Cause::Refused(refusal),
-        }),
-    }
+    answer.map_err(|cause| Stop {
+        line,
+        cause: cause.into(),
+    })
 }

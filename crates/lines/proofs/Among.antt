@@ -1,13 +1,17 @@
 -- A column among others.
-use Rattle.std.proofs.Common.{◌≡◌, ℕ, zero, suc, ◌+◌, ◌-◌, ◌<◌, ◌≤◌, true, false, cond, ◌⊎◌, List, [], ◌∷◌, ◌++◌, length, get_or, take, set, Some, None, Ok, Option, Result, sym, refl, ap, ◌∙◌, subst, inl, inr, ⊎_elim, arith}
-use native.Mathlib.Nat.{sub-zero}
-use Rattle.std.proofs.lemmas.Bool.{eq-eqb, ne_eqb, eqb-true, cases_Bool, both_ways, and_parts, and_from, not-true, not_from_false}
-use Rattle.std.proofs.lemmas.List.{take_more_set, length-take-le}
+use Rattle.std.proofs.Common.{eqb, map, ◌≡◌, ℕ, zero, suc, ◌+◌, ◌<◌, true, false, ◌⊎◌, List, [], ◌∷◌, ◌++◌, length, get_or, take, set, Some, None, Option, sym, refl, ap, ◌∙◌, subst, inl, inr, ⊎_elim, arith}
+use Rattle.std.proofs.lemmas.Bool.{eq-eqb, ne_eqb, eqb-true, cases_Bool, both_ways, and_parts, and_from, or_cases, or_parts, or_from, not-true, not_from_false}
+use Rattle.std.proofs.lemmas.Option.{none-some}
+use Rattle.std.proofs.lemmas.Map.Steps.{length-le_from_distinct_below}
+use Rattle.std.proofs.lemmas.List.Folds.{Any-from_list_any, list_any_at, list_any-append}
+use Rattle.std.specs.List.{list_any, AllByRecursion, IsDistinct}
+use Rattle.std.proofs.lemmas.List.{length-map, take_more_set, length-take-le, get_or_read_under}
 use Rattle.entries.specs.declared.readings.Mark.TheVariants.{Import, FeedIn, Drawn, Given, StorageDrawn, StorageGiven}
 use Rattle.lines.specs.declared.column.Column.{Column}
 use Rattle.lines.specs.declared.column.Column.TheVariants.{Quarter, Value, Reading}
-use Rattle.lines.specs.declared.misread.Misread.{Misread}
-use Rattle.lines.specs.Names.{known, column_number, same_column, has, all_different, has_all, needed, column_of, unless_among, new_column, columns_from}
+use Rattle.lines.specs.declared.columns.Columns.{Columns}
+use Rattle.lines.specs.Columns.{names}
+use Rattle.lines.specs.Names.{known, column_number, same_column, has, all_different, column_of, unless_among, new_column}
 
 -- what holds of each of the eight columns holds of every column
 pub every : (P : Column → Type 0) → P Quarter → P Value → P (Reading Import) → P (Reading FeedIn) → P (Reading Drawn) → P (Reading Given) → P (Reading StorageDrawn) → P (Reading StorageGiven) → (c : Column) → P c
@@ -34,26 +38,12 @@ not_same : (c d : Column) → (c ≡ d → ⊥) → same_column c d ≡ false
 not_same c d ne = ne_eqb _ _ (λ e. ne (same_is c d (eq-eqb _ _ e)))
 
 pub has_from : (c : Column) (ns : List Column) (i : ℕ) → i < length ns → get_or ns i Quarter ≡ c → has c ns ≡ true
-has_from c [] i h e = absurd (omega arith)
-has_from c (n ∷ ns) zero h e = rw (is_same n c e)
-has_from c (n ∷ ns) (suc i) h e =
-    let later = has_from c ns i (omega arith) e in
-    ⊎_elim (λ s. rw s) (λ s. rw s later) (cases_Bool (same_column n c))
+has_from c ns i h e = list_any_at (λ d. same_column d c) ns i Quarter h (is_same _ c e)
 
 pub has_at : (c : Column) (ns : List Column) → has c ns ≡ true → (i : ℕ) × (i < length ns) × (get_or ns i Quarter ≡ c)
-has_at c [] h = absurd (both_ways false refl h)
-has_at c (n ∷ ns) h =
-    ⊎_elim
-    (λ (s : same_column n c ≡ true). (0, omega arith, same_is n c s))
-    (λ (s : same_column n c ≡ false). let later = has_at c ns (rw (s, has) at h) in let l = later.1 in (suc later.0, omega arith, later.2))
-    (cases_Bool (same_column n c))
-
-pub has_none : (c : Column) (ns : List Column) → ((i : ℕ) → i < length ns → get_or ns i Quarter ≡ c → ⊥) → false ≡ has c ns
-has_none c ns none =
-    ⊎_elim
-    (λ h. let at = has_at c ns h in absurd (none at.0 at.1 at.2))
-    (λ h. sym h)
-    (cases_Bool (has c ns))
+has_at c ns h =
+    let any = Any-from_list_any (λ d. same_column d c) ns h in
+    (any.0, any.2, sym (get_or_read_under ns any.0 (length ns) any.1 Quarter (sym any.3) any.2 refl) ∙ same_is any.1 c any.4)
 
 pub apart : (ns : List Column) → all_different ns ≡ true → (i j : ℕ) → i < j → j < length ns → get_or ns i Quarter ≡ get_or ns j Quarter → ⊥
 apart [] d i j l h e = omega arith
@@ -62,73 +52,51 @@ apart (n ∷ ns) d (suc i) zero l h e = omega arith
 apart (n ∷ ns) d zero (suc j) l h e = both_ways (has n ns) (not-true _ (and_parts _ _ d).0) (has_from n ns j (omega arith) (sym e))
 apart (n ∷ ns) d (suc i) (suc j) l h e = apart ns (and_parts _ _ d).1 i j (omega arith) (omega arith) e
 
-pub has_not : (c n : Column) (ns : List Column) → has c (n ∷ ns) ≡ false → (same_column n c ≡ false) × (has c ns ≡ false)
-has_not c n ns h =
-    ⊎_elim
-    (λ (s : same_column n c ≡ true). absurd (both_ways (has c (n ∷ ns)) h (rw s)))
-    (λ (s : same_column n c ≡ false). (s, rw (s, has) at h))
-    (cases_Bool (same_column n c))
-
 has_push : (c : Column) (ns : List Column) (m : Column) → has c ns ≡ false → same_column m c ≡ false → has c (ns ++ m ∷ []) ≡ false
-has_push c [] m h s = rw s
-has_push c (n ∷ ns) m h s = let p = has_not c n ns h in rw p.0 (has_push c ns m p.1 s)
+has_push c ns m h s = list_any-append (λ d. same_column d c) ns (m ∷ []) ∙ or_from _ _ h (or_from _ _ s refl)
 
 -- one more column that is not among the others
 pub different_push : (ns : List Column) (m : Column) → all_different ns ≡ true → has m ns ≡ false → all_different (ns ++ m ∷ []) ≡ true
 different_push [] m d h = refl
 different_push (n ∷ ns) m d h =
-    let p = has_not m n ns h in
+    let p = or_parts (same_column n m) (has m ns) h in
     let other : same_column m n ≡ false = not_same m n (λ e. both_ways (same_column n m) p.0 (is_same n m (sym e))) in
     and_from _ _ (not_from_false _ (has_push n ns m (not-true _ (and_parts _ _ d).0) other)) (different_push ns m (and_parts _ _ d).1 p.1)
 
--- how often a column comes
-abbrev tally : Column → List Column → ℕ
-tally c [] = 0
-tally c (n ∷ ns) = cond (same_column n c) 1 0 + tally c ns
-
--- how often the columns cs come
-abbrev tallies : List Column → List Column → ℕ
-tallies [] ns = 0
-tallies (c ∷ cs) ns = tally c ns + tallies cs ns
-
-tallies_more : (cs : List Column) (n : Column) (ns : List Column) → tallies cs (n ∷ ns) ≡ tallies cs (n ∷ []) + tallies cs ns
-tallies_more [] n ns = refl
-tallies_more (c ∷ cs) n ns = omega (arith, tallies_more cs n ns)
-
-one_known : (c : Column) → tallies known (c ∷ []) ≡ 1
-one_known = every (λ c. tallies known (c ∷ []) ≡ 1) refl refl refl refl refl refl refl refl
-
-length_is : (ns : List Column) → length ns ≡ tallies known ns
-length_is [] = refl
-length_is (n ∷ ns) = omega (arith, tallies_more known n ns, one_known n, length_is ns)
-
-tally_none : (c : Column) (ns : List Column) → has c ns ≡ false → tally c ns ≡ 0
-tally_none c [] h = refl
-tally_none c (n ∷ ns) h = let p = has_not c n ns h in rw p.0 (omega (arith, tally_none c ns p.1))
-
-tally_once : (c : Column) (ns : List Column) → all_different ns ≡ true → tally c ns ≤ 1
-tally_once c [] d = omega arith
-tally_once c (n ∷ ns) d =
-    let p = and_parts _ _ d in
+-- the numbers of columns are below eight
+below_eight : (ns : List Column) (k : ℕ) → list_any (eqb k) (map column_number ns) ≡ true → k < 8
+below_eight [] k h = absurd (both_ways false refl h)
+below_eight (n ∷ ns) k h =
+    let few = every (λ c. column_number c < 8) (omega arith) (omega arith) (omega arith) (omega arith) (omega arith) (omega arith) (omega arith) (omega arith) n in
     ⊎_elim
-    (λ (s : same_column n c ≡ true). let none = subst (λ m. tally m ns ≡ 0) (same_is n c s) (tally_none n ns (not-true _ p.0)) in rw s (omega (arith, none)))
-    (λ (s : same_column n c ≡ false). rw s (omega (arith, tally_once c ns p.1)))
-    (cases_Bool (same_column n c))
+    (λ (e : eqb k (column_number n) ≡ true). let is = eqb-true k (column_number n) e in omega arith)
+    (λ (later : list_any (eqb k) (map column_number ns) ≡ true). below_eight ns k later)
+    (or_cases _ _ h)
 
-tallies_once : (cs ns : List Column) → all_different ns ≡ true → tallies cs ns ≤ length cs
-tallies_once [] ns d = omega arith
-tallies_once (c ∷ cs) ns d = omega (arith, tally_once c ns d, tallies_once cs ns d)
+-- the numbers of different columns are different
+other_numbers : (c : Column) (ns : List Column) → has c ns ≡ false → AllByRecursion (λ k. eqb (column_number c) k ≡ false) (map column_number ns)
+other_numbers c [] h = tt
+other_numbers c (n ∷ ns) h =
+    let p = or_parts (same_column n c) (has c ns) h in
+    (ne_eqb _ _ (λ e. both_ways (same_column n c) p.0 (eq-eqb _ _ (sym e))), other_numbers c ns p.1)
+
+distinct_numbers : (ns : List Column) → all_different ns ≡ true → IsDistinct eqb (map column_number ns)
+unfolding IsDistinct
+distinct_numbers [] d = tt
+distinct_numbers (n ∷ ns) d = let p = and_parts _ _ d in (other_numbers n ns (not-true _ p.0), distinct_numbers ns p.1)
 
 -- with a column that is not among them there are fewer than all
 room : (c : Column) (ns : List Column) → all_different ns ≡ true → has c ns ≡ false → length ns < 8
-room c ns d h = omega (arith, length_is (c ∷ ns), tallies_once known (c ∷ ns) (and_from _ _ (not_from_false _ h) d))
+room c ns d h =
+    let few = length-le_from_distinct_below (map column_number (c ∷ ns)) 8 (distinct_numbers (c ∷ ns) (and_from _ _ (not_from_false _ h) d)) (below_eight (c ∷ ns)) in
+    omega (arith, length-map ns column_number)
 
 -- a column that is not among those before it
 pub unless_some : (before : List Column) (o : Option Column) (c : Column) → unless_among before o ≡ Some c → (o ≡ Some c) × (has c before ≡ false)
-unless_some before None c e = let z : ◌≡◌ {A = ℕ} 0 1 = cc in absurd (omega arith)
+unless_some before None c e = absurd (none-some c e)
 unless_some before (Some d) c e =
     ⊎_elim
-    (λ (h : has d before ≡ true). let no : None ≡ Some c = rw (h, unless_among) at e in let z : ◌≡◌ {A = ℕ} 0 1 = cc in absurd (omega arith))
+    (λ (h : has d before ≡ true). absurd (none-some c (rw (h, unless_among) at e)))
     (λ (h : has d before ≡ false).
     let is : Some d ≡ Some c = rw (h, unless_among) at e in
     let same : d ≡ c = cc in
@@ -141,22 +109,18 @@ unless_none before None e = inl refl
 unless_none before (Some c) e =
     ⊎_elim
     (λ (h : has c before ≡ true). inr (c, refl, h))
-    (λ (h : has c before ≡ false). let no : Some c ≡ None = rw (h, unless_among) at e in let z : ◌≡◌ {A = ℕ} 0 1 = cc in absurd (omega arith))
+    (λ (h : has c before ≡ false). absurd (none-some c (sym (rw (h, unless_among) at e))))
     (cases_Bool (has c before))
 
--- the first k of eight places hold the columns that are named so far
-module _ (k : ℕ) (places : List Column) (long : length places ≡ 8) (d : all_different (take k places) ≡ true) (few : k ≤ 8) where
-  module _ (c : Column) (f : List ℕ) (some : Some c ≡ new_column (take (k - 0) places) f) where
-    is_new : new_column (take k places) f ≡ Some c
-    is_new = sym (rw (sub-zero k) at some)
+-- a column that is not among some, which stand in eight places
+module _ (cs : Columns) (long : length cs.names ≡ 8) (f : List ℕ) (c : Column) (some : new_column (names cs) f ≡ Some c) where
+  new : has c (names cs) ≡ false
+  new = (unless_some (names cs) (column_of f) c some).1
 
-    pub place_left : k < 8
-    place_left = omega (arith, room c (take k places) d (unless_some (take k places) (column_of f) c is_new).1, length-take-le k places (omega arith))
+  pub room_left : cs.count < 8
+  room_left = let few = cs.few in omega (arith, room c (names cs) cs.distinct new, length-take-le cs.count cs.names (omega arith))
 
-    pub name_more : (fs : List (List ℕ)) (r : Result (List Column) Misread) → columns_from (take k places) (f ∷ fs) ≡ r → (all_different (take (k + 1) (set places k c)) ≡ true) × (columns_from (take (k + 1) (set places k c)) fs ≡ r)
-    name_more fs r left =
-        let there : k < length places = let l = place_left in omega arith in
-        rw (take_more_set places k c there) (different_push (take k places) c d (unless_some (take k places) (column_of f) c is_new).1, rw (is_new, columns_from) at left)
-
-pub names_done : (k : ℕ) (places : List Column) (r : Result (List Column) Misread) → true ≡ has_all needed (take (k - 0) places) → columns_from (take k places) [] ≡ r → r ≡ Ok (take k places)
-names_done k places r whole left = sym (rw (sym (rw (sub-zero k) at whole)) at left)
+  pub different_more : all_different (take (cs.count + 1) (set cs.names cs.count c)) ≡ true
+  different_more =
+      let there : cs.count < length cs.names = let l = room_left in omega arith in
+      rw (take_more_set cs.names cs.count c there) (different_push (names cs) c cs.distinct new)

@@ -1,42 +1,21 @@
 -- A text cut at a byte.
-use Rattle.std.proofs.Common.{◌≡◌, ℕ, ◌+◌, ◌-◌, ◌<◌, ◌≤◌, true, false, eqb, List, [], ◌∷◌, ◌++◌, length, get_or, take, drop, Some, None, Option, sym, refl, ap, ◌∙◌, arith, length-append, Bor, eq-eqb, ne_eqb}
-use Rattle.std.proofs.lemmas.List.{take_more, drop_more, take_rest, take_all, take-append-drop}
+use Rattle.std.proofs.Common.{◌≡◌, ◌≢◌, ℕ, zero, suc, ◌+◌, ◌-◌, ◌<◌, ◌≤◌, eqb, List, [], ◌∷◌, ◌++◌, length, get_or, take, drop, refl, ap, ◌∙◌, arith, add-one, length-append, eq-eqb, ne_eqb}
+use Rattle.std.proofs.lemmas.List.{take_rest}
 use Rattle.std.proofs.lemmas.Bool.{cond_both}
-use Rattle.lines.specs.Text.{onto, cut, Follows, ended, lines}
+use Rattle.lines.specs.Text.{onto, cut, ended, lines}
 
--- no byte is c
-abbrev pub Lacks : ℕ → List ℕ → Type 0
-Lacks c [] = Unit {0}
-Lacks c (x ∷ xs) = (eqb x c ≡ false) × Lacks c xs
+pub cut_whole : (c : ℕ) (xs : List ℕ) → ((k : ℕ) → k < length xs → get_or xs k 0 ≢ c) → cut c xs ≡ xs ∷ []
+cut_whole c [] none = refl
+cut_whole c (x ∷ xs) none = rw (ne_eqb x c (none 0 (omega arith)), cut_whole c xs (λ k h. none (suc k) (omega arith)))
 
-lacks_push : (c : ℕ) (xs : List ℕ) (x : ℕ) → Lacks c xs → eqb x c ≡ false → Lacks c (xs ++ x ∷ [])
-lacks_push c [] x l e = (e, tt)
-lacks_push c (y ∷ xs) x l e = (l.0, lacks_push c xs x l.1 e)
+cut_first : (c : ℕ) (xs : List ℕ) (i : ℕ) → i < length xs → get_or xs i 0 ≡ c → ((k : ℕ) → k < i → get_or xs k 0 ≢ c) → cut c xs ≡ take i xs ∷ cut c (drop (suc i) xs)
+cut_first c [] i h at before = absurd (omega arith)
+cut_first c (x ∷ xs) zero h at before = rw (eq-eqb x c at)
+cut_first c (x ∷ xs) (suc i) h at before = rw (ne_eqb x c (before 0 (omega arith)), cut_first c xs i (omega arith) at (λ k l. before (suc k) (omega arith)))
 
-pub lacks_more : (c : ℕ) (xs : List ℕ) (i : ℕ) → i < length xs → Lacks c (take i xs) → (get_or xs i 0 ≡ c → ⊥) → Lacks c (take (i + 1) xs)
-lacks_more c xs i h l e = rw (take_more xs i 0 h) (lacks_push c (take i xs) (get_or xs i 0) l (ne_eqb _ _ e))
-
-cut_whole : (c : ℕ) (xs : List ℕ) → Lacks c xs → cut c xs ≡ xs ∷ []
-cut_whole c [] l = refl
-cut_whole c (x ∷ xs) l = rw (l.0, cut_whole c xs l.1)
-
-pub cut_all : (c : ℕ) (xs : List ℕ) (i : ℕ) → length xs ≤ i → Lacks c (take i xs) → cut c xs ≡ xs ∷ []
-cut_all c xs i h l = cut_whole c xs (rw (take_all i xs h) at l)
-
-cut_front : (c : ℕ) (xs : List ℕ) (x : ℕ) (ys : List ℕ) → Lacks c xs → eqb x c ≡ true → cut c (xs ++ x ∷ ys) ≡ xs ∷ cut c ys
-cut_front c [] x ys l e = rw e
-cut_front c (z ∷ xs) x ys l e = rw (l.0, cut_front c xs x ys l.1 e)
-
--- a text is what stands before one of its bytes, that byte and what follows it
-pub text_at : (c : ℕ) (xs : List ℕ) (i : ℕ) → i < length xs → get_or xs i 0 ≡ c → xs ≡ take (i - 0) xs ++ (c ∷ take (length xs - (i + 1)) (drop (i + 1) xs))
-text_at c xs i h e =
-    let zero_off : i - 0 ≡ i = omega arith in
-    sym (take-append-drop i xs) ∙ ap (λ r. take i xs ++ r) (drop_more xs i 0 h) ∙ rw (take_rest xs (i + 1), zero_off, e)
-
-pub cut_at : (c : ℕ) (xs : List ℕ) (i : ℕ) → i < length xs → Lacks c (take i xs) → get_or xs i 0 ≡ c → cut c xs ≡ take (i - 0) xs ∷ cut c (take (length xs - (i + 1)) (drop (i + 1) xs))
-cut_at c xs i h l e =
-    let zero_off : i - 0 ≡ i = omega arith in
-    ap (cut c) (text_at c xs i h e) ∙ cut_front c (take (i - 0) xs) c (take (length xs - (i + 1)) (drop (i + 1) xs)) (rw zero_off l) (eq-eqb c c refl)
+-- the first piece ends at the first byte c
+pub cut_at : (c : ℕ) (xs : List ℕ) (i : ℕ) → i < length xs → get_or xs i 0 ≡ c → ((k : ℕ) → k < i → get_or xs k 0 ≢ c) → cut c xs ≡ take i xs ∷ cut c (take (length xs - (i + 1)) (drop (i + 1) xs))
+cut_at c xs i h at before = rw (take_rest xs (i + 1), add-one) (cut_first c xs i h at before)
 
 onto_some : (x : ℕ) (ps : List (List ℕ)) → 0 < length (onto x ps)
 onto_some x [] = omega arith
@@ -57,20 +36,29 @@ unfolding lines
 lines_more text line rest e = ap ended e ∙ ended_more line (cut 10 rest) (cut_some 10 rest)
 
 -- a text without line feeds
-pub lines_last : (text line : List ℕ) → 0 < length text → line ≡ text → cut 10 text ≡ line ∷ [] → lines text ≡ line ∷ lines []
+pub lines_last : (text : List ℕ) → 0 < length text → cut 10 text ≡ text ∷ [] → lines text ≡ text ∷ lines []
 unfolding lines
-lines_last [] line some is e = absurd (omega arith)
-lines_last (x ∷ text) line some is e = ap ended e ∙ ap (λ p. ended (p ∷ [])) is ∙ ap (λ p. p ∷ []) (sym is)
+lines_last [] some e = absurd (omega arith)
+lines_last (x ∷ text) some e = ap ended e
 
 -- what follows a piece is shorter than the text
 pub rest_shorter : (c : ℕ) (text piece rest : List ℕ) → text ≡ piece ++ (c ∷ rest) → length rest < length text
 rest_shorter c text piece rest e = omega (arith, simp length-append at (ap length e))
 
--- how long a loop over the pieces may still run
-abbrev pub turns : Option (Bor (List ℕ)) → ℕ
-turns None = 0
-turns (Some rest) = length rest.now + 1
+onto_few : (x : ℕ) (ps : List (List ℕ)) → length (ended (onto x ps)) ≤ length (ended ps) + 1
+onto_few x [] = omega arith
+onto_few x (p ∷ []) = omega arith
+onto_few x (p ∷ (q ∷ qs)) = omega arith
 
-pub turns_fall : (c : ℕ) (text piece : List ℕ) (after : Option (Bor (List ℕ))) → Follows c text piece after → turns after < length text + 1
-turns_fall c text piece None f = omega arith
-turns_fall c text piece (Some rest) f = omega (arith, rest_shorter c text piece rest.now f)
+ended_few : (text : List ℕ) → length (ended (cut 10 text)) ≤ length text
+ended_few [] = omega arith
+ended_few (x ∷ text) =
+    let rest = ended_few text in
+    cond_both (eqb x 10) ([] ∷ cut 10 text) (onto x (cut 10 text)) (λ ps. length (ended ps) ≤ length (x ∷ text))
+    (λ _. omega (arith, ap length (ended_more [] (cut 10 text) (cut_some 10 text))))
+    (λ _. omega (arith, onto_few x (cut 10 text)))
+
+-- a text has no more lines than bytes
+pub lines_few : (text : List ℕ) → length (lines text) ≤ length text
+unfolding lines
+lines_few text = ended_few text

@@ -1,14 +1,16 @@
 -- What reading the line of names comes to.
 use Rattle.std.proofs.Common.{◌≡◌, ℕ, zero, suc, ◌+◌, ◌<◌, ◌≤◌, true, false, ◌⊎◌, List, [], ◌∷◌, ◌++◌, length, get_or, drop, Some, None, Ok, Err, Result, sym, refl, ap, ◌∙◌, subst, inl, inr, ⊎_elim, add-zero, zero-add, arith, length-drop}
 use Rattle.std.proofs.lemmas.List.{ext_get_or, get_or_append_left, get_or_push, length_push, drop_more}
-use Rattle.std.proofs.lemmas.Bool.{cases_lt, cases_Bool, cond_both, lt-ltb, le-ltb, eqb-true, and_parts, and_cases, both_ways}
+use Rattle.std.proofs.lemmas.List.Recursion.{and_at}
+use Rattle.std.proofs.lemmas.Bool.{cases_lt, cases_Bool, cond_both, lt-ltb, le-ltb, eqb-true, and_parts, and_cases, both_ways, or_right}
+use Rattle.std.proofs.lemmas.Option.{none-some}
 use Rattle.lines.specs.declared.column.Column.{Column}
 use Rattle.lines.specs.declared.column.Column.TheVariants.{Quarter}
 use Rattle.lines.specs.declared.misread.Misread.{Misread}
 use Rattle.lines.specs.declared.misread.Misread.TheVariants.{Name, Field}
-use Rattle.lines.specs.Text.{fields, agrees, same_bytes, First}
-use Rattle.lines.specs.Names.{written, known, needed, same_column, has, all_different, has_all, written_as, column_of, new_column, columns_from, columns_in, Names, Unknown, Repeated, BadName, Misnames}
-use Rattle.lines.proofs.Among.{every, same_is, has_from, has_at, apart, different_push, unless_some, unless_none}
+use Rattle.lines.specs.Text.{fields, of_line, agrees, same_bytes, First}
+use Rattle.lines.specs.Names.{written, known, needed, has, all_different, has_all, written_as, column_of, new_column, columns_from, columns_in, Names, Unknown, Repeated, BadName, Misnames}
+use Rattle.lines.proofs.Among.{every, has_from, has_at, apart, different_push, unless_some, unless_none}
 use Rattle.lines.proofs.Firsts.{first_same, none_or_some}
 
 agrees_at : (f : List ℕ) (i : ℕ) (cs : List ℕ) → agrees f i cs ≡ true → (j : ℕ) → j < length cs → get_or f (i + j) 0 ≡ get_or cs j 0
@@ -24,7 +26,7 @@ same_bytes_are f cs s =
     ext_get_or 0 f cs long (λ i h. ap (λ n. get_or f n 0) (sym (zero-add i)) ∙ agrees_at f 0 cs (and_parts _ _ s).1 i (omega arith))
 
 written_as_is : (cs : List Column) (f : List ℕ) (c : Column) → written_as cs f ≡ Some c → f ≡ written c
-written_as_is [] f c e = let z : ◌≡◌ {A = ℕ} 0 1 = cc in absurd (omega arith)
+written_as_is [] f c e = absurd (none-some c e)
 written_as_is (d ∷ cs) f c e =
     ⊎_elim
     (λ (s : same_bytes f (written d) ≡ true). let is : Some d ≡ Some c = rw (s, written_as) at e in let same : d ≡ c = cc in same_bytes_are f (written d) s ∙ ap written same)
@@ -40,10 +42,7 @@ written_same c d e =
     cc
 
 unknown : (f : List ℕ) → column_of f ≡ None → Unknown f
-unknown f none c e =
-    let some : None ≡ Some c = sym none ∙ ap column_of e ∙ column_written c in
-    let z : ◌≡◌ {A = ℕ} 0 1 = cc in
-    omega arith
+unknown f none c e = none-some c (sym none ∙ ap column_of e ∙ column_written c)
 
 -- a column that keeps the others from being whole
 lacks_one : (cs ns : List Column) → has_all cs ns ≡ false → (c : Column) × (has c cs ≡ true) × (has c ns ≡ false)
@@ -51,22 +50,14 @@ lacks_one [] ns w = absurd (both_ways true w refl)
 lacks_one (c ∷ cs) ns w =
     ⊎_elim
     (λ (h : has c ns ≡ false). (c, has_from c (c ∷ cs) 0 (omega arith) refl, h))
-    (λ (h : has_all cs ns ≡ false).
-    let later = lacks_one cs ns h in
-    let at = has_at later.0 cs later.1 in
-    let l = at.1 in
-    (later.0, has_from later.0 (c ∷ cs) (suc at.0) (omega arith) at.2, later.2))
+    (λ (h : has_all cs ns ≡ false). let later = lacks_one cs ns h in (later.0, or_right _ _ later.1, later.2))
     (and_cases (has c ns) (has_all cs ns) w)
 
 -- each column of a whole is there
 whole_has : (cs ns : List Column) → has_all cs ns ≡ true → (c : Column) → has c cs ≡ true → has c ns ≡ true
-whole_has [] ns w c h = absurd (both_ways false refl h)
-whole_has (d ∷ cs) ns w c h =
-    let p = and_parts (has d ns) (has_all cs ns) w in
-    ⊎_elim
-    (λ (s : same_column d c ≡ true). subst (λ x. has x ns ≡ true) (same_is d c s) p.0)
-    (λ (s : same_column d c ≡ false). whole_has cs ns p.1 c (rw (s, has) at h))
-    (cases_Bool (same_column d c))
+whole_has cs ns w c h =
+    let at = has_at c cs h in
+    subst (λ d. has d ns ≡ true) at.2 (and_at (λ ds. has_all ds ns) (λ d. has d ns) refl (λ _ _. refl) cs at.0 Quarter at.1 w)
 
 -- the first fields are the names of the columns ns, all different
 record Named (fs : List (List ℕ)) (ns : List Column) : Type 0 where
@@ -195,3 +186,17 @@ module _ (line : List ℕ) where
   -- what is told of a line is what is read
   pub columns_only : (a : Result (List Column) Misread) → Told line a → columns_in line ≡ a
   columns_only a told = same_told (columns_in line) a columns_told told
+
+-- the same of what the line comes to, as the code finds it
+module _ (line : List ℕ) where
+  pub names_told : (ns : List Column) → of_line line (columns_from [] (fields line)) ≡ Ok ns → Names line ns
+  unfolding columns_in
+  names_told ns e = subst (Told line) e (columns_told line)
+
+  pub misnames_told : (e : Misread) → of_line line (columns_from [] (fields line)) ≡ Err e → Misnames line e
+  unfolding columns_in
+  misnames_told e is = subst (Told line) is (columns_told line)
+
+  pub names_only : (ns : List Column) → Names line ns → of_line line (columns_from [] (fields line)) ≡ Ok ns
+  unfolding columns_in
+  names_only ns told = columns_only line (Ok ns) told

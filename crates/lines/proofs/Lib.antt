@@ -3,5 +3,4 @@ pub mod Numbers
 pub mod Firsts
 pub mod Among
 pub mod Headed
-pub mod Filled
 pub mod Spelling

@@ -1,6 +1,7 @@
 -- What reading a line of values comes to.
-use Rattle.std.proofs.Common.{◌≡◌, ℕ, zero, suc, ◌+◌, ◌<◌, ◌≤◌, true, false, cond, not, eqb, List, [], ◌∷◌, length, get_or, Some, None, Ok, Err, Result, sym, refl, ap, ◌∙◌, subst, inl, inr, ⊎_elim, arith}
-use Rattle.std.proofs.lemmas.Bool.{cases_lt, cases_Bool, lt-ltb, le-ltb, and_parts, not-true, both_ways, eq-eqb}
+use Rattle.std.proofs.Common.{◌≡◌, ℕ, zero, suc, ◌+◌, ◌<◌, ◌≤◌, true, false, cond, not, eqb, List, [], ◌∷◌, length, get_or, drop, Some, None, Ok, Err, Result, sym, refl, ap, ◌∙◌, subst, inl, inr, ⊎_elim, arith}
+use Rattle.std.proofs.lemmas.List.{drop_more}
+use Rattle.std.proofs.lemmas.Bool.{cases_lt, cases_Bool, lt-ltb, le-ltb, and_parts, or_parts, or_from, not-true, both_ways, eq-eqb}
 use Rattle.entries.specs.declared.entry.Entry.{Entry}
 use Rattle.entries.specs.declared.readings.Mark.{Mark}
 use Rattle.entries.specs.declared.readings.Mark.TheVariants.{Import, FeedIn, Drawn, Given, StorageDrawn, StorageGiven}
@@ -10,11 +11,11 @@ use Rattle.lines.specs.declared.column.Column.{Column}
 use Rattle.lines.specs.declared.column.Column.TheVariants.{Quarter, Value, Reading}
 use Rattle.lines.specs.declared.misread.Misread.{Misread}
 use Rattle.lines.specs.declared.misread.Misread.TheVariants.{Name, Field}
-use Rattle.lines.specs.Text.{fields, First}
+use Rattle.lines.specs.Text.{fields, of_line, First}
 use Rattle.lines.specs.Names.{same_column, has, all_different}
-use Rattle.lines.specs.Values.{number_of}
-use Rattle.lines.specs.Entries.{amount, readings_by, with_reading, with_amount, nothing, row_from, spelt, Spells, BadField, Tells}
-use Rattle.lines.proofs.Among.{same_is, has_not}
+use Rattle.lines.specs.Values.{number_of, first_value}
+use Rattle.lines.specs.Entries.{amount, readings_by, with_reading, with_amount, nothing, row_from, Spells, BadField, Tells}
+use Rattle.lines.proofs.Among.{same_is}
 use Rattle.lines.proofs.Firsts.{none_or_some}
 
 -- what a row has in a column
@@ -113,7 +114,7 @@ fill_one k n ns f fs row v good new (Ok filled) rest =
     record {
       as_many = ap suc rest.as_many;
       each = each_more n ns f fs filled (good ∙ ap (λ x. Some x) (sym mine)) rest.each;
-      others = λ c h. let p = has_not c n ns h in rest.others c p.1 ∙ at_other n c v row p.0;
+      others = λ c h. let p = or_parts (same_column n c) (has c ns) h in rest.others c p.1 ∙ at_other n c v row p.0;
     }
 fill_one k n ns f fs row v good new (Err (Name j)) rest = rest
 fill_one k n ns f fs row v good new (Err (Field j)) rest = (suc rest.0, let e = rest.1 in omega arith, first_more (length ns) f fs v good rest.0 rest.2)
@@ -142,7 +143,7 @@ fills k (n ∷ ns) (f ∷ fs) row filled h =
       each = λ i l. h.each (suc i) (omega arith);
       others = λ c new. ⊎_elim
           (λ (s : same_column n c ≡ true). let P : Column → Type 0 = λ c. at c filled ≡ at c (with_amount n v row) in subst P (same_is n c s) (sym (at_there n v row)))
-          (λ (s : same_column n c ≡ false). h.others c (rw (s, has) new) ∙ sym (at_other n c v row s))
+          (λ (s : same_column n c ≡ false). h.others c (or_from _ _ s new) ∙ sym (at_other n c v row s))
           (cases_Bool (same_column n c));
     } in
     rw (h.each 0 (omega arith), row_from) (fills (k + 1) ns fs (with_amount n v row) filled rest)
@@ -153,16 +154,21 @@ module _ (ns : List Column) (line : List ℕ) where
   told_within short (Err (Name j)) o = o
   told_within short (Err (Field j)) o = inr (record { short = short; place = o.0; column = let e = o.1 in omega arith; first = o.2 })
 
-  pub spelt_told : all_different ns ≡ true → Tells ns line (spelt ns line)
-  unfolding spelt
-  spelt_told d =
+  told : all_different ns ≡ true → Tells ns line (of_line line (row_from 1 ns (fields line) nothing))
+  told d =
       ⊎_elim
       (λ (l : 200 < length line). rw (lt-ltb 200 (length line) l) (inl (refl, l)))
       (λ (l : length line ≤ 200). rw (le-ltb 200 (length line) l) (told_within l (row_from 1 ns (fields line) nothing) (tells 1 ns (fields line) nothing d)))
       (cases_lt 200 (length line))
 
-  pub spelt_only : (q : ℕ) (e : Entry) → Spells ns line q e → spelt ns line ≡ Ok (q, e)
-  unfolding spelt
-  spelt_only q e s =
-      rw (le-ltb 200 (length line) s.short)
-      (fills 1 ns (fields line) nothing (q, e) (record { as_many = s.as_many; each = s.each; others = λ c h. s.absent c h ∙ sym (at_nothing c) }))
+  pub spells_told : (r : Result (ℕ × Entry) Misread) → all_different ns ≡ true → of_line line (row_from 1 ns (fields line) nothing) ≡ r → Tells ns line r
+  spells_told r d e = subst (Tells ns line) e (told d)
+
+  pub spells_only : (r : Result (ℕ × Entry) Misread) → of_line line (row_from 1 ns (fields line) nothing) ≡ r → (q : ℕ) (e : Entry) → Spells ns line q e → r ≡ Ok (q, e)
+  spells_only r is q e s =
+      let row : Filled ns (fields line) nothing (q, e) = record { as_many = s.as_many; each = s.each; others = λ c h. s.absent c h ∙ sym (at_nothing c) } in
+      sym is ∙ rw (le-ltb 200 (length line) s.short) (fills 1 ns (fields line) nothing (q, e) row)
+
+-- the first column that is left is bad
+pub row_stops : (k i : ℕ) (ns : List Column) (fs : List (List ℕ)) (row : ℕ × Entry) (e : Misread) → i < length ns → first_value k fs ≡ Err e → row_from k (drop i ns) fs row ≡ Err e
+row_stops k i ns fs row e h bad = rw (drop_more ns i Quarter h) (rw (bad, row_from))

@@ -1,5 +1,6 @@
 pub mod Misreads
 pub mod Text
+pub mod Unread
 pub mod Names
 pub mod Columns
 pub mod Values

@@ -1,5 +1,6 @@
 -- The names of a file's columns, and the line that has them.
-use Rattle.std.specs.Prelude.{◌≡◌, ℕ, ◌+◌, ◌<◌, ◌≤◌, Bool, true, false, cond, not, ◌&&◌, ◌⊎◌, List, [], ◌∷◌, ◌++◌, length, Some, None, Ok, Err, codes, Option, Result, ◌==◌, ◌≢◌, slice_index_or}
+use Rattle.std.specs.Prelude.{◌≡◌, ℕ, ◌+◌, ◌<◌, ◌≤◌, Bool, true, cond, not, ◌&&◌, ◌⊎◌, List, [], ◌∷◌, ◌++◌, length, Some, None, Ok, Err, codes, Option, Result, ◌==◌, ◌≢◌, slice_index_or}
+use Rattle.std.specs.List.{list_all, list_any}
 use Rattle.entries.specs.declared.readings.Mark.TheVariants.{Import, FeedIn, Drawn, Given, StorageDrawn, StorageGiven}
 use Rattle.entries.specs.Marks.{mark_number}
 use Rattle.lines.specs.declared.column.Column.{Column}
@@ -39,8 +40,7 @@ same_column c d = column_number c == column_number d
 
 -- c is among some columns
 abbrev pub has : Column → List Column → Bool
-has c [] = false
-has c (d ∷ ds) = cond (same_column d c) true (has c ds)
+has c ns = list_any (λ d. same_column d c) ns
 
 -- no two columns are the same
 abbrev pub all_different : List Column → Bool
@@ -49,8 +49,7 @@ all_different (c ∷ cs) = not (has c cs) && all_different cs
 
 -- each of the columns cs is among ns
 abbrev pub has_all : List Column → List Column → Bool
-has_all [] ns = true
-has_all (c ∷ cs) ns = has c ns && has_all cs ns
+has_all cs ns = list_all (λ c. has c ns) cs
 
 -- the first of the columns cs whose name is written as f
 abbrev pub written_as : List Column → List ℕ → Option Column

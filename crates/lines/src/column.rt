@@ -2,7 +2,7 @@
 use entries::readings::Mark;
 
 /// What a column holds, which its name says.
-#[derive(Clone, Copy, PartialEq)]
+#[derive(Clone, Copy, PartialEq, Eq, Debug)]
 pub enum Column {
     /// Q, the quarter.
     Quarter,

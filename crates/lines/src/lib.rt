@@ -3,6 +3,7 @@
 
 pub mod column;
 pub mod columns;
+mod fields;
 pub mod misread;
 pub mod names;
 pub mod rows;

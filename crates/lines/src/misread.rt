@@ -3,7 +3,7 @@ ghost use Rattle.std.specs.Prelude.{◌≡◌};
 ghost use Rattle.lines.specs.Misreads.{misread_number, misread_column};
 
 /// Why a line is not read, and the column that it is about, counted from 1.
-#[derive(Clone, Copy)]
+#[derive(Clone, Copy, PartialEq, Eq, Debug)]
 pub enum Misread {
     /// A column's name is unknown, repeated or lacking.
     Name(u64),
@@ -13,6 +13,7 @@ pub enum Misread {
 
 impl Misread {
     /// The number that the misreading goes by.
+    // By a match, since a variant with a field can't be declared with a number.
     pub fn number(self) -> u64
         ensures { result ≡ misread_number self }
     {

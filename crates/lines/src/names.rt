@@ -1,14 +1,23 @@
 //! The line that names a file's columns.
-ghost use Rattle.std.specs.Prelude.{◌≡◌, ℕ, ◌<◌, true, List, [], ◌∷◌, length, Ok, Err, MatchResult};
-ghost use Rattle.lines.specs.Text.{fields, of_line};
-ghost use Rattle.lines.specs.Names.{has, has_all, needed, column_of, new_column, columns_from, columns_in, Names, Misnamed, Misnames};
+ghost use Rattle.std.specs.Prelude.{◌≡◌, ℕ, ◌+◌, ◌<◌, true, List, [], ◌∷◌, length, Ok, Err, MatchResult};
+ghost use Rattle.lines.specs.Names.{has, has_all, column_of, new_column, columns_from, columns_in, Names, Misnamed, Misnames};
 ghost use Rattle.lines.specs.Columns.{names};
 
 use crate::column::Column;
 use crate::columns::Columns;
+use crate::fields::Fields;
 use crate::misread::Misread;
-use crate::text::{is_too_long, split_field};
 use entries::readings::Mark;
+
+// The columns that every file has.
+const NEEDED: [Column; 6] = [
+    Column::Quarter,
+    Column::Value,
+    Column::Reading(Mark::Import),
+    Column::Reading(Mark::FeedIn),
+    Column::Reading(Mark::Drawn),
+    Column::Reading(Mark::Given),
+];
 
 // The column of a reading, by what its name has after the Z.
 fn reading_column(digit: u8, rest: &[u8]) -> Option<Column>
@@ -38,74 +47,65 @@ fn column_named(name: &[u8]) -> Option<Column>
     }
 }
 
-fn is_among(column: Column, columns: &[Column]) -> bool
-    ensures { result ≡ has column columns.now }
-{
-    for other in columns {
-        if *other == column {
-            return true;
+impl Columns {
+    // No columns.
+    fn none() -> Columns
+        ensures { names result ≡ [] }
+    {
+        Columns {
+            names: [Column::Quarter; 8],
+            count: 0,
         }
     }
-    false
-}
 
-// The column with that name, unless it is among those before it.
-fn new_column(name: &[u8], before: &[Column]) -> Option<Column>
-    ensures { result ≡ new_column before.now name.now }
-{
-    let column = column_named(name)?;
-    if is_among(column, before) {
-        None
-    } else {
-        Some(column)
+    // The columns, in their order.
+    pub(crate) fn as_slice(&self) -> &[Column]
+        ensures { result.now ≡ names self.now }
+    {
+        &self.names[..self.count]
     }
-}
 
-// Whether the columns that every file needs are there.
-fn is_whole(columns: &[Column]) -> bool
-    ensures { result ≡ has_all needed columns.now }
-{
-    is_among(Column::Quarter, columns)
-        && is_among(Column::Value, columns)
-        && is_among(Column::Reading(Mark::Import), columns)
-        && is_among(Column::Reading(Mark::FeedIn), columns)
-        && is_among(Column::Reading(Mark::Drawn), columns)
-        && is_among(Column::Reading(Mark::Given), columns)
-}
+    // Whether a column is among these.
+    fn has(&self, column: Column) -> bool
+        ensures { result ≡ has column (names self.now) }
+    {
+        self.as_slice().contains(&column)
+    }
 
-// The columns that the fields of a line name.
-fn read_names(line: &[u8]) -> Result<Columns, Misread>
-    ensures { MatchResult result (λ cs. columns_from [] (fields line.now) ≡ Ok (names cs)) (λ e. columns_from [] (fields line.now) ≡ Err e) }
-{
-    let mut names = [Column::Quarter; 8];
-    let mut count = 0;
-    let mut rest = Some(line);
-    while let Some(text) = rest {
-        let (name, after) = split_field(text);
-        let Some(column) = new_column(name, &names[0..count]) else {
-            return Err(Misread::Name(count as u64 + 1));
-        };
-        names[count] = column;
-        count += 1;
-        rest = after;
+    // Whether each of some columns is among these.
+    fn has_all(&self, columns: &[Column]) -> bool
+        ensures { result ≡ has_all columns.now (names self.now) }
+    {
+        columns.iter().all(|column| self.has(*column))
     }
-    if !is_whole(&names[0..count]) {
-        return Err(Misread::Name(count as u64 + 1));
-    }
-    Ok(Columns { names, count })
-}
 
-// What `read_columns` answers, by the fields of the line.
-fn columns_named(line: &[u8]) -> Result<Columns, Misread>
-    ensures { MatchResult result (λ cs. of_line line.now (columns_from [] (fields line.now)) ≡ Ok (names cs)) (λ e. of_line line.now (columns_from [] (fields line.now)) ≡ Err e) }
-{
-    if is_too_long(line) {
-        return Err(Misread::Field(0));
+    // The column with that name, unless it is among these.
+    fn new_column(&self, name: &[u8]) -> Option<Column>
+        ensures { result ≡ new_column (names self.now) name.now }
+    {
+        column_named(name).filter(|column| !self.has(*column))
     }
-    read_names(line)
+
+    // What is told of a bad name after these.
+    fn misnamed(&self) -> Misread
+        ensures { result ≡ Misread.Name (length (names self.now) + 1) }
+    {
+        Misread::Name(self.count as u64 + 1)
+    }
+
+    // Adds the column with that name, which must not be among these.
+    fn add(&mut self, name: &[u8]) -> Result<(), Misread>
+        ensures { (fs : List (List ℕ)) → MatchResult result (λ _. columns_from (names self.old) (name.now ∷ fs) ≡ columns_from (names self.new) fs) (λ e. columns_from (names self.old) (name.now ∷ fs) ≡ Err e) }
+    {
+        let column = self.new_column(name).ok_or(self.misnamed())?;
+        self.names[self.count] = column;
+        self.count += 1;
+        Ok(())
+    }
 }
 
 /// Reads the line that names a file's columns.
+#[tactic(auto, using(crate::proofs::Headed::names_told, crate::proofs::Headed::misnames_told, crate::proofs::Headed::names_only), unfolding(crate::specs::Names::columns_in))]
 pub fn read_columns(line: &[u8]) -> Result<Columns, Misread>
     ensures exact { MatchResult result (λ cs. columns_in line.now ≡ Ok (names cs)) (λ e. columns_in line.now ≡ Err e) }
     ensures told { MatchResult result (λ cs. Names line.now (names cs)) (λ e. Misnames line.now e) }
@@ -113,5 +113,12 @@ pub fn read_columns(line: &[u8]) -> Result<Columns, Misread>
     ensures first { (k : ℕ) → Misnamed line.now k → columns_in line.now ≡ Err (Misread.Name k) }
     ensures long { 200 < length line.now → columns_in line.now ≡ Err (Misread.Field 0) }
 {
-    columns_named(line)
+    let mut columns = Columns::none();
+    for name in Fields::of(line)? {
+        columns.add(name)?;
+    }
+    if !columns.has_all(&NEEDED) {
+        return Err(columns.misnamed());
+    }
+    Ok(columns)
 }

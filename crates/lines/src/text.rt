@@ -1,6 +1,8 @@
-//! Texts cut at a byte: into lines, and lines into fields.
-ghost use Rattle.std.specs.Prelude.{◌≡◌, ◌<◌, [], ◌∷◌, length, MatchOption};
-ghost use Rattle.lines.specs.Text.{cut, pieces, Follows, fields, lines, CutsLine, too_long, of_line, heading_of, heading_in};
+//! Texts cut at a byte, as into lines; and the heading of an input.
+ghost use Rattle.std.specs.Prelude.{◌≡◌, ◌<◌, ◌≤◌, [], ◌∷◌, length, Ok, MatchOption};
+ghost use Rattle.std.specs.Iterator.{YieldsFirstRef, item_count};
+ghost use Rattle.lines.specs.Text.{cut, pieces, Follows, lines, CutsLine, of_line, heading_in};
+ghost use Rattle.lines.specs.Unread.{lines_left};
 
 use crate::misread::Misread;
 
@@ -8,35 +10,18 @@ use crate::misread::Misread;
 const LONGEST_LINE: usize = 200;
 
 // The piece before the first `at`, and what follows that byte, if there is one.
-fn split(text: &[u8], at: u8) -> (&[u8], Option<&[u8]>)
+pub(crate) fn split(text: &[u8], at: u8) -> (&[u8], Option<&[u8]>)
     ensures cuts { cut at text.now ≡ result.0.now ∷ pieces at result.1 }
     ensures rest { Follows at text.now result.0.now result.1 }
 {
-    for (i, b) in text.iter().enumerate() {
-        if *b == at {
-            return (&text[0..i], Some(&text[i + 1..]));
-        }
+    match text.iter().position(|b| *b == at) {
+        Some(i) => (&text[..i], Some(&text[i + 1..])),
+        None => (text, None),
     }
-    (text, None)
-}
-
-// The text before the first line feed, and what follows that, if there is one.
-fn split_line(text: &[u8]) -> (&[u8], Option<&[u8]>)
-    ensures cuts { cut 10 text.now ≡ result.0.now ∷ pieces 10 result.1 }
-    ensures rest { Follows 10 text.now result.0.now result.1 }
-{
-    split(text, b'\n')
-}
-
-// The first field of a line, and what follows its semicolon, if there is one.
-pub(crate) fn split_field(line: &[u8]) -> (&[u8], Option<&[u8]>)
-    ensures cuts { fields line.now ≡ result.0.now ∷ pieces 59 result.1 }
-    ensures rest { Follows 59 line.now result.0.now result.1 }
-{
-    split(line, b';')
 }
 
 /// The first line of a text, without its line feed, and what follows it; none where the text is empty.
+#[tactic(auto, using(crate::proofs::Cuts::lines_more, crate::proofs::Cuts::lines_last, crate::proofs::Cuts::rest_shorter))]
 pub fn next_line(text: &[u8]) -> Option<(&[u8], &[u8])>
     ensures lines { MatchOption result (text.now ≡ []) (λ p. (lines text.now ≡ p.0.now ∷ lines p.1.now) × (length p.1.now < length text.now)) }
     ensures bytes { MatchOption result (text.now ≡ []) (λ p. CutsLine text.now p.0.now p.1.now) }
@@ -44,36 +29,60 @@ pub fn next_line(text: &[u8]) -> Option<(&[u8], &[u8])>
     if text.is_empty() {
         return None;
     }
-    let (line, after) = split_line(text);
-    match after {
-        Some(rest) => Some((line, rest)),
-        None => Some((line, &[])),
+    let (line, after) = split(text, b'\n');
+    Some((line, after.unwrap_or(&[])))
+}
+
+/// The lines of a text, one after another.
+#[derive(Drop)]
+pub struct Lines<'a> {
+    rest: &'a [u8],
+}
+
+impl<'a> Lines<'a> {
+    /// The lines of a text, no more than it has bytes.
+    #[tactic(auto, using(crate::proofs::Cuts::lines_few))]
+    pub fn of(text: &'a [u8]) -> Lines<'a>
+        ensures lines { lines_left result ≡ lines text.now }
+        ensures few { length (lines text.now) ≤ length text.now }
+    {
+        Lines { rest: text }
+    }
+}
+
+impl<'a> Iterator for Lines<'a> {
+    type Item = &'a [u8];
+
+    ghost next_gives = { YieldsFirstRef lines_left };
+
+    ghost remaining = { item_count lines_left };
+
+    #[tactic(auto, unfolding(crate::specs::Text::lines))]
+    fn next(&mut self) -> Option<&'a [u8]> {
+        let (line, rest) = next_line(self.rest)?;
+        self.rest = rest;
+        Some(line)
     }
 }
 
 /// Reads the heading of an input, its first line, which has to be `CASE;YEAR`.
+#[tactic(auto, unfolding(crate::specs::Text::heading_in))]
 pub fn read_heading(line: &[u8]) -> Result<(), Misread>
     ensures { result ≡ heading_in line.now }
 {
-    heading(line)
-}
-
-// What `read_heading` answers, by its bytes.
-fn heading(line: &[u8]) -> Result<(), Misread>
-    ensures { result ≡ of_line line.now (heading_of line.now) }
-{
-    if is_too_long(line) {
-        return Err(Misread::Field(0));
-    }
+    check_length(line)?;
     match line {
         b"CASE;YEAR" => Ok(()),
         _ => Err(Misread::Name(1)),
     }
 }
 
-// Whether a line has more bytes than a line may have.
-pub(crate) fn is_too_long(line: &[u8]) -> bool
-    ensures { result ≡ too_long line.now }
+// Refuses a line that has more bytes than a line may have.
+pub(crate) fn check_length(line: &[u8]) -> Result<(), Misread>
+    ensures { result ≡ of_line line.now (Ok tt) }
 {
-    line.len() > LONGEST_LINE
+    if line.len() > LONGEST_LINE {
+        return Err(Misread::Field(0));
+    }
+    Ok(())
 }

@@ -1,15 +1,16 @@
 //! The values of a line: numbers of 1 to 10 digits between semicolons.
-ghost use Rattle.std.specs.Prelude.{◌≡◌, ◌+◌, ◌*◌, ◌^◌, ◌<◌, Ok, Err, MatchResult};
-ghost use Rattle.lines.specs.Text.{fields, pieces, of_line};
-ghost use Rattle.lines.specs.Values.{class, fit_length, number_of, first_value, others, ends_with, pair_of, pair_in};
+ghost use Rattle.std.specs.Prelude.{◌≡◌, ◌+◌, ◌^◌, ◌<◌, true, false, Ok, Err, MatchResult};
+ghost use Rattle.lines.specs.Text.{fields, too_long};
+ghost use Rattle.lines.specs.Unread.{unread};
+ghost use Rattle.lines.specs.Values.{class, number_of, first_value, others, ends_with, pair_in};
 
+use crate::fields::Fields;
 use crate::misread::Misread;
-use crate::text::{is_too_long, split_field};
 
 // The most digits that a value may have.
 const MOST_DIGITS: usize = 10;
 
-// What a character of a line of values is.
+// What a character of a line of values is: the three classes of the format, though a value needs the digit alone.
 #[derive(Clone, Copy)]
 enum Class {
     Digit(u64),
@@ -27,78 +28,73 @@ fn class_of(c: char) -> Class
     }
 }
 
-// Whether a field has as many bytes as a value may have digits.
-fn has_fit_length(field: &[u8]) -> bool
-    ensures { result ≡ fit_length field.now }
-{
-    !field.is_empty() && field.len() <= MOST_DIGITS
-}
-
-// The value with one more digit at its end.
-fn with_digit(value: u64, digit: u64) -> u64
-    requires { (value < 10 ^ 9) × (digit < 10) }
-    ensures { result ≡ value * 10 + digit }
-{
-    10 * value + digit
-}
-
-// The value that a field spells; none where it is malformed.
+// The value that a field spells; none where it is malformed. A loop, since a closure of `try_fold` would not know that the value fits.
+#[tactic(auto, using(std::proofs::lemmas::Grind::common_steps, crate::proofs::Numbers::spelt_whole))]
 fn number(field: &[u8]) -> Option<u64>
     ensures { result ≡ number_of field.now }
 {
-    if !has_fit_length(field) {
+    if field.is_empty() || field.len() > MOST_DIGITS {
         return None;
     }
     let mut value = 0;
     for b in field {
-        match class_of(char::from(*b)) {
-            Class::Digit(digit) => value = with_digit(value, digit),
-            Class::Separator | Class::Other => return None,
-        }
+        let Class::Digit(digit) = class_of(char::from(*b)) else {
+            return None;
+        };
+        value = 10 * value + digit;
     }
     Some(value)
 }
 
-// The value in a column, which is the first in what is left of the line, and what is left after it.
-pub(crate) fn read_value(rest: Option<&[u8]>, column: u64) -> Result<(u64, Option<&[u8]>), Misread>
-    ensures { MatchResult result (λ p. (first_value column (pieces 59 rest.entry) ≡ Ok p.0) × (others (pieces 59 rest.entry) ≡ pieces 59 p.1)) (λ e. first_value column (pieces 59 rest.entry) ≡ Err e) }
-{
-    let Some(text) = rest else {
-        return Err(Misread::Field(column));
-    };
-    let (field, after) = split_field(text);
-    match number(field) {
-        Some(value) => Ok((value, after)),
-        None => Err(Misread::Field(column)),
-    }
+// The values of a line that are still to be read.
+#[derive(Drop)]
+pub(crate) struct Values<'a> {
+    fields: Fields<'a>,
+    // The column of the next value, counted from 1: `end` tells of one after the last.
+    column: u64,
 }
 
-// Refuses a column that is one too many: nothing may be left of the line.
-pub(crate) fn read_end(rest: Option<&[u8]>, column: u64) -> Result<(), Misread>
-    ensures { result ≡ ends_with tt column (pieces 59 rest.entry) }
-{
-    match rest {
-        Some(_) => Err(Misread::Field(column)),
-        None => Ok(()),
+impl<'a> Values<'a> {
+    // The values of a line, unless it is too long.
+    pub(crate) fn of(line: &'a [u8]) -> Result<Values<'a>, Misread>
+        ensures { MatchResult result (λ vs. (too_long line.now ≡ false) × (vs.column ≡ 1) × (unread vs.fields ≡ fields line.now)) (λ e. (too_long line.now ≡ true) × (e ≡ Misread.Field 0)) }
+    {
+        Ok(Values {
+            fields: Fields::of(line)?,
+            column: 1,
+        })
+    }
+
+    // The value in the next column.
+    pub(crate) fn read(&mut self) -> Result<u64, Misread>
+        requires { self.old.column + 1 < 2 ^ 64 }
+        ensures { MatchResult result (λ v. (first_value self.old.column (unread self.old.fields) ≡ Ok v) × (others (unread self.old.fields) ≡ unread self.new.fields) × (self.new.column ≡ self.old.column + 1)) (λ e. first_value self.old.column (unread self.old.fields) ≡ Err e) }
+    {
+        let field = self.fields.next();
+        let value = field.and_then(number).ok_or(Misread::Field(self.column))?;
+        self.column += 1;
+        Ok(value)
+    }
+
+    // Refuses a column that is one too many: no value may be left.
+    pub(crate) fn end(mut self) -> Result<(), Misread>
+        ensures { result ≡ ends_with tt self.entry.column (unread self.entry.fields) }
+    {
+        match self.fields.next() {
+            Some(_) => Err(Misread::Field(self.column)),
+            None => Ok(()),
+        }
     }
 }
 
 /// Reads a line of just two values.
+#[tactic(auto, unfolding(crate::specs::Values::pair_in))]
 pub fn read_pair(line: &[u8]) -> Result<(u64, u64), Misread>
     ensures { result ≡ pair_in line.now }
 {
-    pair(line)
-}
-
-// What `read_pair` answers, by the fields of the line.
-fn pair(line: &[u8]) -> Result<(u64, u64), Misread>
-    ensures { result ≡ of_line line.now (pair_of (fields line.now)) }
-{
-    if is_too_long(line) {
-        return Err(Misread::Field(0));
-    }
-    let (first, rest) = read_value(Some(line), 1)?;
-    let (second, rest) = read_value(rest, 2)?;
-    read_end(rest, 3)?;
+    let mut values = Values::of(line)?;
+    let first = values.read()?;
+    let second = values.read()?;
+    values.end()?;
     Ok((first, second))
 }

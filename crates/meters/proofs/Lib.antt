@@ -1,2 +1,1 @@
-pub mod Nth
 pub mod Held

@@ -1,7 +1,7 @@
 //! A value list that keeps only the changes of its value.
-ghost use Rattle.std.specs.Prelude.{◌≡◌, ◌+◌, ◌<◌, ◌≤◌, length, MatchOption};
+ghost use Rattle.std.specs.Prelude.{◌≡◌, nat_le};
 ghost use Rattle.std.specs.Result.{result_err};
-ghost use Rattle.meters.specs.Changes.{quarter_at, NoneHoldsFrom, held, HeldIsLast, change_value};
+ghost use Rattle.meters.specs.Changes.{held, HeldIsLast, change_value};
 ghost use Rattle.std.proofs.Common.{rules};
 
 use series::fault::{Cause, Fault};
@@ -9,12 +9,21 @@ use series::limits::limited_value;
 use series::series::{Series, ValueList};
 
 /// A value, and the quarter from which on it can hold.
-#[derive(Clone, Copy)]
+#[derive(Clone, Copy, PartialEq, Eq, Default, Debug)]
 pub struct Change {
     /// The first quarter of the value.
     pub quarter: u64,
     /// The value.
     pub value: u64,
+}
+
+impl Change {
+    /// Whether the change has come by a quarter, so that its value can hold. A method, so that the search below has a contract to go by.
+    fn reached(self, quarter: u64) -> bool
+        ensures { result ≡ nat_le self.quarter quarter }
+    {
+        self.quarter <= quarter
+    }
 }
 
 /// Changes in any order. At a quarter that several of them have reached, the last in the list holds.
@@ -24,25 +33,13 @@ pub struct ChangeList {
     pub rows: Vec<Change>,
 }
 
-/// The place of the last row whose quarter is at most `quarter`.
-fn last_place(rows: &[Change], quarter: u64) -> Option<usize>
-    ensures { MatchOption result (NoneHoldsFrom 0 rows.now quarter) (λ i. (i < length rows.now) × (quarter_at rows.now i ≤ quarter) × NoneHoldsFrom (i + 1) rows.now quarter) }
-{
-    for i in (0..rows.len()).rev() {
-        if rows[i].quarter <= quarter {
-            return Some(i);
-        }
-    }
-    None
-}
-
 /// The row that holds at a quarter, as it is defined; and the definition gives the last such row.
+#[tactic(auto, using(crate::proofs::Held::held_is_last))]
 fn row_that_holds(rows: &[Change], quarter: u64) -> Option<Change>
     ensures row { result ≡ held rows.now quarter }
     ensures last { HeldIsLast rows.now quarter }
 {
-    let place = last_place(rows, quarter)?;
-    Some(rows[place])
+    rows.iter().rev().find(|row| row.reached(quarter)).copied()
 }
 
 impl Series for ChangeList {
@@ -66,9 +63,7 @@ impl ValueList for ChangeList {
         ensures value { result ≡ change_value self.now.rows.items quarter }
         ensures last { HeldIsLast self.now.rows.items quarter }
     {
-        match row_that_holds(&self.rows, quarter) {
-            Some(row) => limited_value(row.value, quarter),
-            None => Err(Fault::here(Cause::Missing, quarter)),
-        }
+        let row = row_that_holds(&self.rows, quarter).ok_or(Fault::here(Cause::Missing, quarter))?;
+        limited_value(row.value, quarter)
     }
 }

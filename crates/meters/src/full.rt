@@ -8,7 +8,7 @@ use series::fault::{Cause, Fault};
 use series::limits::limited_value;
 use series::series::{Series, ValueList};
 
-/// Stands in a row that has no value.
+/// Stands in a row that has no value: rows are handed over as one 32-bit number a quarter.
 pub const NO_VALUE: u32 = 4_294_967_295;
 
 /// Row q of a full value list has the value of quarter q.
@@ -36,12 +36,9 @@ impl ValueList for FullValueList {
     ghost within = { Prim.search rules };
 
     fn value(&self, quarter: u64) -> Result<u32, Fault> {
-        let Some(number) = row_at(&self.rows, quarter) else {
-            return Err(Fault::here(Cause::Missing, quarter));
-        };
-        if number == NO_VALUE {
-            return Err(Fault::here(Cause::Missing, quarter));
-        }
+        let number = row_at(&self.rows, quarter)
+            .filter(|number| *number != NO_VALUE)
+            .ok_or(Fault::here(Cause::Missing, quarter))?;
         limited_value(u64::from(number), quarter)
     }
 }

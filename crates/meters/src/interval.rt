@@ -12,13 +12,13 @@ use series::series::{Meter, Series};
 const VALID: u8 = 1;
 
 /// What was metered in one quarter.
-#[derive(Clone, Copy)]
+#[derive(Clone, Copy, PartialEq, Eq, Default, Debug)]
 pub struct IntervalRow {
     /// Energy taken, in Wh.
     pub taken: u64,
     /// Energy given, in Wh.
     pub given: u64,
-    /// 1 where the row is valid; a row with another mark does not count.
+    /// 1 where the row is valid; a row with another mark does not count. Rows are handed over with a number here.
     pub mark: u8,
 }
 
@@ -47,12 +47,9 @@ impl Meter for IntervalMeter {
     ghost within = { Prim.search rules };
 
     fn read(&self, quarter: u64) -> Result<(u32, u32), Fault> {
-        let Some(row) = row_at(&self.rows, quarter) else {
-            return Err(Fault::here(Cause::Missing, quarter));
-        };
-        if row.mark != VALID {
-            return Err(Fault::here(Cause::Missing, quarter));
-        }
+        let row = row_at(&self.rows, quarter)
+            .filter(|row| row.mark == VALID)
+            .ok_or(Fault::here(Cause::Missing, quarter))?;
         limited_reading(row.taken, row.given, quarter)
     }
 }

@@ -9,7 +9,7 @@ use series::limits::limited_reading;
 use series::series::{Meter, Series};
 
 /// The two counts at the start of one quarter.
-#[derive(Clone, Copy)]
+#[derive(Clone, Copy, PartialEq, Eq, Default, Debug)]
 pub struct RegisterRow {
     /// Energy taken so far, in Wh.
     pub taken: u64,
@@ -43,15 +43,12 @@ impl Meter for RegisterMeter {
     ghost within = { Prim.search rules };
 
     fn read(&self, quarter: u64) -> Result<(u32, u32), Fault> {
-        let Some(start) = row_at(&self.rows, quarter) else {
-            return Err(Fault::here(Cause::Missing, quarter));
-        };
-        let Some(end) = row_at(&self.rows, quarter + 1) else {
-            return Err(Fault::here(Cause::Missing, quarter));
-        };
-        if end.taken < start.taken || end.given < start.given {
-            return Err(Fault::here(Cause::Fell, quarter));
-        }
-        limited_reading(end.taken - start.taken, end.given - start.given, quarter)
+        let missing = Fault::here(Cause::Missing, quarter);
+        let start = row_at(&self.rows, quarter).ok_or(missing)?;
+        let end = row_at(&self.rows, quarter + 1).ok_or(missing)?;
+        let fell = Fault::here(Cause::Fell, quarter);
+        let taken = end.taken.checked_sub(start.taken).ok_or(fell)?;
+        let given = end.given.checked_sub(start.given).ok_or(fell)?;
+        limited_reading(taken, given, quarter)
     }
 }

@@ -40,7 +40,7 @@ impl<M: Meter> Meter for Transformer<M> {
     fn read(&self, quarter: u64) -> Result<(u32, u32), Fault> {
         let (taken, given) = from_below(self.meter.read(quarter))?;
         let factor = self.factor;
-        if factor < 1 || factor > FACTOR_LIMIT {
+        if !(1..=FACTOR_LIMIT).contains(&factor) {
             return Err(Fault::here(Cause::TooBig, quarter));
         }
         limited_reading(

@@ -1,5 +1,5 @@
--- Faults: their numbers, what is told beside the number, and how they climb. Assumes nothing.
-use Rattle.std.specs.Prelude.{◌≡◌, ℕ, ◌+◌, ◌≤◌, min, Some, None, Ok, Err, Option, Result}
+-- Faults: their numbers, what is told beside the number, how they print and how they climb. Assumes nothing.
+use Rattle.std.specs.Prelude.{◌≡◌, ℕ, ◌+◌, ◌≤◌, ◌++◌, List, min, Some, None, Ok, Err, Option, Result, codes, decimal}
 use Rattle.series.specs.declared.fault.Cause.{Cause}
 use Rattle.series.specs.declared.fault.Cause.TheVariants.{Missing, Fell, TooBig}
 use Rattle.series.specs.declared.fault.Fault.{Fault}
@@ -10,9 +10,20 @@ cause_number Missing = 11
 cause_number Fell = 12
 cause_number TooBig = 13
 
+-- the name under which a cause is told
+abbrev pub cause_text : Cause → List ℕ
+cause_text Missing = codes "MISSING"
+cause_text Fell = codes "FELL"
+cause_text TooBig = codes "TOO BIG"
+
 -- what is told beside a fault's number: the quarter asked for, and the depth
 abbrev pub fault_values : Fault → ℕ × ℕ
 fault_values f = (f.quarter, f.depth)
+
+-- how a fault prints: the number of its cause, the quarter asked for and the depth
+abbrev pub fault_text : Fault → List ℕ
+fault_text f =
+    codes "fault " ++ decimal (cause_number f.cause) ++ codes ", quarter " ++ decimal f.quarter ++ codes ", depth " ++ decimal f.depth
 
 -- a fault of the asked layer itself
 abbrev pub own_fault : Cause → ℕ → Fault

@@ -1,5 +1,5 @@
 -- The first gap of a span. Assumes nothing.
-use Rattle.std.specs.Prelude.{◌≡◌, ℕ, ◌<◌, ◌≤◌, Some, None, Ok, Err, Option, Result}
+use Rattle.std.specs.Prelude.{◌≡◌, ℕ, ◌<◌, ◌≤◌, ◌++◌, List, Some, None, Ok, Err, Option, Result, codes, decimal}
 use Rattle.series.specs.declared.fault.Fault.{Fault}
 use Rattle.series.specs.declared.gap.SpanRefusal.{SpanRefusal}
 use Rattle.series.specs.declared.gap.SpanRefusal.TheVariants.{Quarter}
@@ -7,6 +7,10 @@ use Rattle.series.specs.declared.gap.SpanRefusal.TheVariants.{Quarter}
 -- the number of a refusal of a span
 abbrev pub refusal_number : SpanRefusal → ℕ
 refusal_number Quarter = 4
+
+-- how a refusal prints
+abbrev pub refusal_text : SpanRefusal → List ℕ
+refusal_text e = codes "refused " ++ decimal (refusal_number e)
 
 -- every quarter from `from` on and before `to` has its item
 abbrev pub Whole : (ℕ → Option Fault) → ℕ → ℕ → Type 0

@@ -3,14 +3,11 @@ ghost use Rattle.std.specs.Prelude.{◌≡◌};
 ghost use Rattle.series.specs.Limits.{reading_of, value_of};
 
 use crate::fault::{Cause, Fault};
-
-/// The most that a meter takes or gives in a quarter, in Wh.
-const READING_LIMIT: u64 = 1_000_000;
-
-/// The highest value of a quarter.
-const VALUE_LIMIT: u64 = 100_000;
+use entries::case::READING_LIMIT;
+use entries::entry::VALUE_LIMIT;
 
 /// Taken and given energy as a reading, if both are within the limit.
+// Each limit is tested where the casts to 32 bits are, which it makes safe.
 pub fn limited_reading(taken: u64, given: u64, quarter: u64) -> Result<(u32, u32), Fault>
     ensures { result ≡ reading_of taken given quarter }
 {

@@ -7,6 +7,7 @@ ghost use Rattle.series.specs.Limits.{Reading, Value, ReadingWithin, ValueWithin
 
 use crate::fault::Fault;
 
+// Each make has an impl and proves the laws: an impl for every `Meter` would overlap with that for every `ValueList`, and a default of a law knows no make.
 /// For each quarter an item or a fault. Asking changes nothing.
 pub trait Series {
     // At each quarter: no fault, so that the item is present, or the fault in its place.
@@ -26,6 +27,7 @@ pub trait Meter: Series {
     ghost readings: { Self → ℕ → Reading };
 
     /// The energy taken and the energy given in a quarter.
+    // A pair of two u32 and no struct: a meter answers both energies together.
     fn read(&self, quarter: u64) -> Result<(u32, u32), Fault>
         ensures { result ≡ readings self.now quarter };
 

@@ -1,5 +1,6 @@
 //! Every refusal that an input can meet, its line and its place, and which of several comes first.
 use files::split::split_text;
+use files::stream::split_stream;
 use std::alloc::{AllocError, Global};
 use std::process::Abort;
 use std::test::Fail;
@@ -18,11 +19,11 @@ fn check_told<S: Store + Drop>(
     told: &str,
     at: &str,
 ) -> Result<(), Fail> {
-    let output = split_text(store, input);
-    assert_eq!(rt; output.is_refusal(), true, "at {at}");
-    let text = std::str::from_utf8(output.text())?;
+    let answer = split_text(store, input);
+    assert_eq!(rt; answer.is_err(), true, "at {at}");
+    let text = answer.unwrap_or_else(|text| text);
     assert_eq!(rt;
-        text.strip_prefix("REFUSAL;LINE;PLACE\n"),
+        text.as_str().strip_prefix("REFUSAL;LINE;PLACE\n"),
         Some(told),
         "at {at}"
     );
@@ -162,10 +163,10 @@ fn limits(rt: HostRuntime) -> Result<(), Fail> {
 fn check_stated(rt: &impl Abort, heap: Global, rows: &str, values: &str) -> Result<(), Fail> {
     let mut input = String::from_str(heap, START)?;
     input.push_str(rows)?;
-    let output = split_text(SlipBox::new(heap, 1_000)?, input.as_bytes());
-    assert_eq!(rt; output.is_refusal(), false, "at {rows}");
-    let text = std::str::from_utf8(output.text())?;
-    assert_eq!(rt; text.lines().nth(1), Some(values), "at {rows}");
+    let answer = split_text(SlipBox::new(heap, 1_000)?, input.as_bytes());
+    assert_eq!(rt; answer.is_err(), false, "at {rows}");
+    let text = answer.unwrap_or_else(|text| text);
+    assert_eq!(rt; text.as_str().lines().nth(1), Some(values), "at {rows}");
     Ok(())
 }
 
@@ -184,5 +185,19 @@ fn accepted(rt: HostRuntime) -> Result<(), Fail> {
     ] {
         check_stated(&rt, rt.alloc(), rows, values)?;
     }
+    Ok(())
+}
+
+#[test]
+fn a_stream(rt: HostRuntime) -> Result<(), Fail> {
+    let heap = rt.alloc();
+    let mut reader = b"CASE;YEAR\n5;2026\n".as_slice();
+    let mut writer = Vec::new(heap);
+    let refused = split_stream(heap, SlipBox::new(heap, 1)?, &mut reader, &mut writer)?;
+    assert_eq!(rt; refused, true);
+    assert_eq!(rt;
+        writer.as_slice(),
+        b"REFUSAL;LINE;PLACE\n1;2;0\n".as_slice()
+    );
     Ok(())
 }

@@ -2,24 +2,14 @@
 #![tactic(auto)]
 
 use entries::quarters::MOST_QUARTERS;
-use files::split::split_text;
-use std::io::{Read, Write};
+use files::stream::split_stream;
 use std::process::ExitCode;
 use stores::year_table::YearTable;
 
-/// Answers standard input, and tells whether it was refused.
-fn run(rt: &HostRuntime) -> anyhow::Result<bool> {
-    let mut input = Vec::new(rt.alloc());
-    let _ = rt.stdin().read_to_end(&mut input)?;
-    let output = split_text(YearTable::new(rt.alloc(), MOST_QUARTERS)?, &input);
-    rt.stdout().write_all(output.text())?;
-    Ok(output.is_refusal())
-}
-
-// After a refusal, which is told on standard output, the exit status is 1.
+// As the program `split` but for the store. After a refusal, which is told on standard output, the exit status is 1.
 fn main(rt: HostRuntime) -> anyhow::Result<ExitCode> {
-    if run(&rt)? {
-        return Ok(ExitCode::FAILURE);
-    }
-    Ok(ExitCode::SUCCESS)
+    let heap = rt.alloc();
+    let store = YearTable::new(heap, MOST_QUARTERS)?;
+    let refused = split_stream(heap, store, &mut rt.stdin(), &mut rt.stdout())?;
+    Ok(ExitCode::from(u8::from(refused)))
 }

@@ -43,6 +43,47 @@ widths_more : (cs ds : List (List ℕ)) → widths (cs ++ ds) ≡ widths cs + wi
 widths_more [] ds = omega arith
 widths_more (c ∷ cs) ds = omega (arith, widths_more cs ds)
 
+-- every number of a statement fits 64 bits
+pub record Fitting (s : Statement) : Type 0 where
+  pub year : s.year < 2 ^ 64
+  pub entries : s.entries < 2 ^ 64
+  pub import : s.import < 2 ^ 64
+  pub feed_in : s.feed_in < 2 ^ 64
+  pub nettable : s.figures.nettable < 2 ^ 64
+  pub loss : SFits w64 s.figures.loss
+  pub levied : s.figures.levied < 2 ^ 64
+  pub fund_direct : s.figures.fund_direct < 2 ^ 64
+  pub fund_stored : s.figures.fund_stored < 2 ^ 64
+  pub fund_all : s.figures.fund_all < 2 ^ 64
+  pub zero_direct : s.figures.zero_direct < 2 ^ 64
+  pub zero_stored : s.figures.zero_stored < 2 ^ 64
+  pub foreign : s.figures.foreign < 2 ^ 64
+  pub loose : s.figures.loose < 2 ^ 64
+
+-- the case and the values after it have few enough bytes for a text
+pub values_fit : (s : Statement) → Fitting s → length (decimal (case_number s.case)) + length (fields (map signed_decimal (values_after_case s))) ≤ 315
+values_fit s w =
+    let r = s.figures in
+    omega (
+      arith,
+      length_fields (map signed_decimal (values_after_case s)),
+      length-decimal-le 1 (case_number s.case) (omega arith) (omega (arith, case_below s.case)) (omega (arith, case_below s.case)),
+      at_most_twenty s.year w.year,
+      at_most_twenty s.entries w.entries,
+      at_most_twenty s.import w.import,
+      at_most_twenty s.feed_in w.feed_in,
+      at_most_twenty r.nettable w.nettable,
+      length_signed_le 19 r.loss (omega (arith, w.loss.sfits)) w.loss.sfits,
+      at_most_twenty r.levied w.levied,
+      at_most_twenty r.fund_direct w.fund_direct,
+      at_most_twenty r.fund_stored w.fund_stored,
+      at_most_twenty r.fund_all w.fund_all,
+      at_most_twenty r.zero_direct w.zero_direct,
+      at_most_twenty r.zero_stored w.zero_stored,
+      at_most_twenty r.foreign w.foreign,
+      at_most_twenty r.loose w.loose,
+    )
+
 -- the numbers that nothing else bounds fit 64 bits
 pub record Narrow (s : Statement) : Type 0 where
   pub year : s.year < 2 ^ 64

@@ -1,4 +1,3 @@
 pub mod Statements
 pub mod Refusals
 pub mod Printed
-pub mod Puts

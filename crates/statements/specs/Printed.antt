@@ -37,6 +37,11 @@ abbrev pub fields : List (List ℕ) → List ℕ
 fields [] = []
 fields (c ∷ cs) = 59 ∷ (c ++ fields cs)
 
+-- texts separated by semicolons
+abbrev pub separated : List (List ℕ) → List ℕ
+separated [] = []
+separated (c ∷ cs) = c ++ fields cs
+
 -- a line: texts separated by semicolons, and a line feed
 abbrev pub line : List (List ℕ) → List ℕ
 line [] = 10 ∷ []

@@ -1,5 +1,5 @@
 -- The numbers that refusals of a statement go by.
-use Rattle.std.specs.Prelude.{ℕ}
+use Rattle.std.specs.Prelude.{ℕ, List, ◌++◌, codes, decimal}
 use Rattle.statements.specs.declared.refusal.Total.{Total}
 use Rattle.statements.specs.declared.refusal.Total.TheVariants.{Import, FeedIn}
 
@@ -17,3 +17,13 @@ short_number = 17
 
 abbrev pub fileno_number : ℕ
 fileno_number = 18
+
+-- a refusal as it is told: by its name and its number, DIFFERS also by the place of the total
+abbrev pub differs_told : Total → List ℕ
+differs_told t = codes "DIFFERS (" ++ decimal differs_number ++ codes "), place " ++ decimal (total_place t)
+
+abbrev pub short_told : List ℕ
+short_told = codes "SHORT (" ++ decimal short_number ++ codes ")"
+
+abbrev pub fileno_told : List ℕ
+fileno_told = codes "FILENO (" ++ decimal fileno_number ++ codes ")"

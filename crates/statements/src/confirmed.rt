@@ -6,13 +6,14 @@ use crate::filed::Filed;
 use crate::refusal::BadFileNumber;
 use crate::statement::Statement;
 
-/// The numbers that a statement can be filed under.
+/// The first number that a statement can be filed under.
 pub const FIRST_FILE_NUMBER: u64 = 1;
 
+/// The last one.
 pub const LAST_FILE_NUMBER: u64 = 999_999;
 
 /// A confirmed statement, with the numbers of the draft that it was. It is moved, never copied, and can only be filed.
-#[derive(Drop)]
+#[derive(Debug, Drop)]
 pub struct Confirmed {
     pub(crate) statement: Statement,
     ghost sound: { Sound statement },
@@ -30,7 +31,7 @@ impl Confirmed {
     pub fn file(self, number: u64) -> Result<Filed, BadFileNumber>
         ensures { MatchResult result (λ f. (fileable number ≡ true) × (f.statement ≡ self.statement) × (f.number ≡ number)) (λ e. (fileable number ≡ false) × (e.confirmed ≡ self)) }
     {
-        if number < FIRST_FILE_NUMBER || number > LAST_FILE_NUMBER {
+        if !(FIRST_FILE_NUMBER..=LAST_FILE_NUMBER).contains(&number) {
             return Err(BadFileNumber { confirmed: self });
         }
         Ok(Filed {

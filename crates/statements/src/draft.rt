@@ -5,15 +5,15 @@ ghost use Rattle.statements.specs.Statements.{statement_of, Sound, differing};
 ghost use Rattle.statements.specs.Printed.{text, Prints};
 
 use crate::confirmed::Confirmed;
-use crate::print::print_statement;
 use crate::refusal::{Differs, Short, Total};
 use crate::statement::Statement;
+use crate::text::{Text, print_text, statement_text};
 use entries::case::Case;
 use figures::split::figures;
 use sums::sums::Sums;
 
 /// A statement as it was drawn. A draft is moved, never copied: it can be confirmed, and printed. Its feed-in always adds up.
-#[derive(Drop)]
+#[derive(Debug, Drop)]
 pub struct Draft {
     statement: Statement,
     ghost adds_up: { FeedInAddsUp statement.feed_in statement.figures },
@@ -63,10 +63,17 @@ impl Draft {
         Err(Differs { total, draft: self })
     }
 
+    /// The draft's text.
+    pub fn text(&self) -> Text
+        ensures { result.bytes ≡ text self.now.statement None }
+    {
+        statement_text(self.statement, None)
+    }
+
     /// Prints the draft at the buffer's front, and answers the length. Refused with SHORT where the buffer has less than 400 bytes.
     pub fn print(&self, buffer: &mut [u8]) -> Result<usize, Short>
         ensures { Prints (text self.now.statement None) buffer.old result buffer.new }
     {
-        print_statement(self.statement, None, buffer)
+        print_text(&self.text(), buffer)
     }
 }

@@ -3,12 +3,12 @@ ghost use Rattle.std.specs.Prelude.{◌≡◌, true, Some};
 ghost use Rattle.statements.specs.Statements.{Sound, fileable};
 ghost use Rattle.statements.specs.Printed.{text, Prints};
 
-use crate::print::print_statement;
 use crate::refusal::Short;
 use crate::statement::Statement;
+use crate::text::{Text, print_text, statement_text};
 
 /// A statement filed under a number, with the numbers of the draft that it was. It is moved, never copied, and can only be printed.
-#[derive(Drop)]
+#[derive(Debug, Drop)]
 pub struct Filed {
     pub(crate) statement: Statement,
     pub(crate) number: u64,
@@ -31,11 +31,18 @@ impl Filed {
         self.number
     }
 
+    /// The statement's text, with its number in a last column.
+    pub fn text(&self) -> Text
+        ensures { result.bytes ≡ text self.now.statement (Some self.now.number) }
+    {
+        statement_text(self.statement, Some(self.number))
+    }
+
     /// Prints the statement, with its number in a last column, at the buffer's front, and answers the length. Refused with SHORT where the buffer has less
     /// than 400 bytes.
     pub fn print(&self, buffer: &mut [u8]) -> Result<usize, Short>
         ensures { Prints (text self.now.statement (Some self.now.number)) buffer.old result buffer.new }
     {
-        print_statement(self.statement, Some(self.number), buffer)
+        print_text(&self.text(), buffer)
     }
 }

@@ -4,7 +4,7 @@
 pub mod confirmed;
 pub mod draft;
 pub mod filed;
-mod print;
 pub mod refusal;
 pub mod refusal_note;
 pub mod statement;
+pub mod text;

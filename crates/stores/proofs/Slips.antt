@@ -1,96 +1,117 @@
 -- A row of slips on which a quarter is once at most.
-use Rattle.std.specs.Prelude.{◌≡◌, ℕ, zero, suc, ◌<◌, true, cond, not, ◌&&◌, List, [], ◌∷◌, ◌++◌, length, is_some, Some, None, Option, ◌==◌, ◌≢◌, nat_lt, slice_index_or, slice_set, refl}
-use Rattle.std.proofs.Common.{sym, ap, ◌∙◌, arith}
+use Rattle.std.specs.Prelude.{◌≡◌, ℕ, zero, suc, ◌<◌, Bool, true, false, cond, not, ◌&&◌, List, [], ◌∷◌, ◌++◌, length, is_some, Some, None, Option, ◌==◌, ◌≢◌, nat_lt, slice_index_or, slice_set, refl}
+use Rattle.std.proofs.Common.{sym, ap, ◌∙◌, ◌⊎◌, inl, inr, arith}
 use Rattle.std.proofs.Math.Path.{fun_ext}
 use Rattle.std.specs.Option.{option_map}
-use Rattle.std.specs.List.{slice_get}
-use Rattle.std.proofs.lemmas.Bool.{true≢false, eq-eqb, cond-true, and_from, lt-ltb}
-use Rattle.std.proofs.lemmas.Option.{slice_get-get_or}
+use Rattle.std.specs.List.{slice_get, find, position, position_or_len}
+use Rattle.std.proofs.lemmas.Bool.{and_from, lt-ltb, eq-eqb, cases_eq}
 use Rattle.std.proofs.lemmas.Bool.Decides.{nat_tests}
+use Rattle.std.proofs.lemmas.List.Folds.{find_at, find-set, find_past}
+use Rattle.std.proofs.lemmas.List.Quantifiers.{position-Some}
+use Rattle.std.proofs.lemmas.Option.{slice_get_cases, slice_get_past, slice_get-get_or}
 use Rattle.entries.specs.declared.entry.Entry.{Entry}
-use Rattle.entries.specs.Pairs.{updated}
-use Rattle.entries.proofs.Totals.{with_at_elsewhere}
+use Rattle.entries.specs.Pairs.{updated, tally}
+use Rattle.entries.proofs.Totals.{with_at_here, with_at_elsewhere}
 use Rattle.stores.specs.declared.slip.Slip.{Slip}
-use Rattle.stores.specs.Slips.{on_slips, one_each, quarter_on, entry_on, Found}
-use Rattle.stores.specs.StoreLaws.{Once}
+use Rattle.stores.specs.Slips.{on_slips, one_each, quarter_on, Found}
+use Rattle.stores.specs.StoreLaws.{Once, once_from_test, slips_tally}
 
-pub test_from_once : (n : ℕ) (ss : List Slip) → Once n ss → one_each n ss ≡ true
-test_from_once n [] t = refl
-test_from_once n (s ∷ ss) t =
-    and_from (nat_lt s.quarter n) (not (is_some (on_slips ss s.quarter)) && one_each n ss)
-    (lt-ltb s.quarter n t.0)
-    (and_from (not (is_some (on_slips ss s.quarter))) (one_each n ss) (ap (λ o. not (is_some o)) t.1) (test_from_once n ss t.2))
+-- the pairs are those of the first slip of each quarter
+entry_first : (b : Bool) (s : Slip) (o : Option Slip) → cond b (Some s.entry) (option_map (λ t. t.entry) o) ≡ option_map (λ t. t.entry) (cond b (Some s) o)
+entry_first true s o = refl
+entry_first false s o = refl
 
--- the quarter that is read from the slip at i
-pub quarter_read : (ss : List Slip) (i q : ℕ) (d : Slip) → i < length ss → (slice_index_or ss i d).quarter ≡ q → quarter_on ss i ≡ Some q
-quarter_read ss i q d h e = ap (option_map (λ s. s.quarter)) (slice_get-get_or ss i d h) ∙ ap Some e
+on_first : (ss : List Slip) (q : ℕ) → on_slips ss q ≡ option_map (λ s. s.entry) (find (λ s. s.quarter == q) ss)
+on_first [] q = refl
+on_first (s ∷ ss) q = ap (cond (s.quarter == q) (Some s.entry)) (on_first ss q) ∙ entry_first (s.quarter == q) s (find (λ t. t.quarter == q) ss)
 
-pub read_quarter : (ss : List Slip) (i q : ℕ) (d : Slip) → i < length ss → quarter_on ss i ≡ Some q → (slice_index_or ss i d).quarter ≡ q
-read_quarter ss i q d h e =
-    let here : ◌≡◌ {A = Option ℕ} (Some (slice_index_or ss i d).quarter) (Some q) = sym (quarter_read ss i (slice_index_or ss i d).quarter d h refl) ∙ e in
-    cc
+first_on : (ss : List Slip) (q : ℕ) → on_slips ss q ≡ option_map (λ s. s.entry) (slice_get ss (position_or_len (λ s. s.quarter == q) ss))
+first_on ss q = on_first ss q ∙ ap (option_map (λ s. s.entry)) (find_at (λ s. s.quarter == q) ss)
 
--- no slip has the quarter
-pub slips_miss : (ss : List Slip) (q : ℕ) → ((k : ℕ) → k < length ss → quarter_on ss k ≢ Some q) → on_slips ss q ≡ None
-slips_miss [] q h = refl
-slips_miss (s ∷ ss) q h =
-    with_at_elsewhere (on_slips ss) s.quarter (Some s.entry) q (λ e. h 0 (omega arith) (ap Some (sym e)))
-    ∙ slips_miss ss q (λ k l e. h (suc k) (omega arith) e)
+-- so that `position` finds them
+pub slips_missed : (ss : List Slip) (q : ℕ) → position (λ s. s.quarter == q) ss ≡ None → on_slips ss q ≡ None
+slips_missed ss q e =
+    first_on ss q ∙ ap (option_map (λ s. s.entry)) (slice_get_past ss (position_or_len (λ s. s.quarter == q) ss) (grind (arith, nat_tests)))
 
--- a slip has the quarter, and so it is the only one
-alike : (o : Option Slip) → is_some (option_map (λ s. s.entry) o) ≡ is_some (option_map (λ s. s.quarter) o)
-alike None = refl
-alike (Some s) = refl
+pub slips_found : (ss : List Slip) (q i : ℕ) → position (λ s. s.quarter == q) ss ≡ Some i → Found ss q i
+slips_found ss q i e =
+    elim (slice_get_cases ss i).1 [
+      | inl (s, within, at, read) ↦ found s at read
+      | inr past ↦ absurd (grind (arith, nat_tests))
+    ]
+  where
+    found : (s : Slip) → slice_get ss i ≡ Some s → slice_index_or ss i s ≡ s → Found ss q i
+    found s at read =
+        let h = position-Some (λ t. t.quarter == q) ss i s e in
+        let place : i ≡ position_or_len (λ t. t.quarter == q) ss = grind (arith, nat_tests) in
+        let own : s.quarter ≡ q = grind (arith, nat_tests, h.1) in
+        let entry : option_map (λ t. t.entry) (slice_get ss i) ≡ on_slips ss q =
+        ap (λ k. option_map (λ t. t.entry) (slice_get ss k)) place ∙ sym (first_on ss q) in
+        record { within = h.0; quarter = ap (option_map (λ t. t.quarter)) at ∙ ap Some own; entry = entry; stands = ap is_some (sym entry ∙ ap (option_map (λ t. t.entry)) at) }
 
-stands : (ss : List Slip) (i q : ℕ) → quarter_on ss i ≡ Some q → entry_on ss i ≡ on_slips ss q → is_some (on_slips ss q) ≡ true
-stands ss i q e r = ap is_some (sym r) ∙ alike (slice_get ss i) ∙ ap is_some e
+-- a quarter stands where it is found
+pub stands_where_found : (ss : List Slip) (q : ℕ) → is_some (on_slips ss q) ≡ is_some (position (λ s. s.quarter == q) ss)
+stands_where_found ss q = by_place (position (λ s. s.quarter == q) ss) refl
+  where
+    by_place : (o : Option ℕ) → position (λ s. s.quarter == q) ss ≡ o → is_some (on_slips ss q) ≡ is_some o
+    by_place None e = ap is_some (slips_missed ss q e)
+    by_place (Some i) e = (slips_found ss q i e).stands
 
-apart : (n : ℕ) (s : Slip) (ss : List Slip) (i q : ℕ) → Once n (s ∷ ss) → quarter_on ss i ≡ Some q → entry_on ss i ≡ on_slips ss q → s.quarter ≢ q
-apart n s ss i q t e r m = true≢false (sym (stands ss i q e r) ∙ ap (λ k. is_some (on_slips ss k)) (sym m) ∙ ap is_some t.1)
+-- what stands at a quarter is on the slip that is found. The first part is trivially true: it gives `grind` the term to match
+pub slips_at : (ss : List Slip) (q : ℕ)
+    → (on_slips ss q ≡ on_slips ss q)
+    × (((i : ℕ) × (position (λ s. s.quarter == q) ss ≡ Some i) × ((d : Slip) → on_slips ss q ≡ Some (slice_index_or ss i d).entry))
+    ⊎ ((position (λ s. s.quarter == q) ss ≡ None) × (on_slips ss q ≡ None)))
+slips_at ss q = (refl, by_place (position (λ s. s.quarter == q) ss) refl)
+  where
+    by_place : (o : Option ℕ) → position (λ s. s.quarter == q) ss ≡ o
+        → ((i : ℕ) × (position (λ s. s.quarter == q) ss ≡ Some i) × ((d : Slip) → on_slips ss q ≡ Some (slice_index_or ss i d).entry))
+        ⊎ ((position (λ s. s.quarter == q) ss ≡ None) × (on_slips ss q ≡ None))
+    by_place None e = inr (e, slips_missed ss q e)
+    by_place (Some i) e =
+        let f = slips_found ss q i e in
+        inl (i, e, λ d. sym f.entry ∙ ap (option_map (λ s. s.entry)) (slice_get-get_or ss i d f.within))
 
-pub slips_hit : (n : ℕ) (ss : List Slip) (i q : ℕ) → Once n ss → quarter_on ss i ≡ Some q → entry_on ss i ≡ on_slips ss q
-slips_hit n [] i q t e = grind arith
-slips_hit n (s ∷ ss) zero q t e =
-    let m : s.quarter ≡ q = cc in
-    sym (cond-true (s.quarter == q) (Some s.entry) (on_slips ss q) (eq-eqb s.quarter q m))
-slips_hit n (s ∷ ss) (suc i) q t e =
-    let r = slips_hit n ss i q t.2 e in
-    r ∙ sym (with_at_elsewhere (on_slips ss) s.quarter (Some s.entry) q (λ m. apart n s ss i q t e r (sym m)))
-
-pub slips_found : (n : ℕ) (ss : List Slip) (i q : ℕ) → Once n ss → i < length ss → quarter_on ss i ≡ Some q → Found ss q i
-slips_found n ss i q t h e =
-    let r = slips_hit n ss i q t e in
-    record { within = h; quarter = e; entry = r; stands = stands ss i q e r }
-
--- changes at two quarters, in either order
-crossed : (k a b : ℕ) (x y o : Option Entry) → (a ≢ b) → cond (a == k) x (cond (b == k) y o) ≡ cond (b == k) y (cond (a == k) x o)
-crossed k a b x y o ne = grind (arith, nat_tests)
-
--- the slip at i written over with one of the same quarter
-slips_set_at : (n : ℕ) (ss : List Slip) (i : ℕ) (w : Slip) → Once n ss → quarter_on ss i ≡ Some w.quarter
+-- the first slip of a quarter written over with one of the same quarter
+slips_set_at : (ss : List Slip) (i : ℕ) (w : Slip) → position (λ s. s.quarter == w.quarter) ss ≡ Some i
     → (k : ℕ) → on_slips (slice_set ss i w) k ≡ updated (on_slips ss) w.quarter w.entry k
-slips_set_at n [] i w t e k = grind arith
-slips_set_at n (s ∷ ss) zero w t e k = let m : s.quarter ≡ w.quarter = cc in grind (arith, nat_tests)
-slips_set_at n (s ∷ ss) (suc i) w t e k =
-    ap (λ o. cond (s.quarter == k) (Some s.entry) o) (slips_set_at n ss i w t.2 e k)
-    ∙ crossed k s.quarter w.quarter (Some s.entry) (Some w.entry) (on_slips ss k) (apart n s ss i w.quarter t e (slips_hit n ss i w.quarter t.2 e))
+slips_set_at ss i w e k =
+    let h = position-Some (λ s. s.quarter == w.quarter) ss i w e in
+    elim (cases_eq k w.quarter) [
+      | inl m ↦
+          rw m (on_first (slice_set ss i w) w.quarter
+          ∙ ap (option_map (λ s. s.entry)) (find-set (λ s. s.quarter == w.quarter) ss i w (grind (arith, nat_tests)) h.0 (eq-eqb w.quarter w.quarter refl))
+          ∙ sym (with_at_here (on_slips ss) w.quarter (Some w.entry)))
+      | inr ne ↦
+          on_first (slice_set ss i w) k
+          ∙ ap (option_map (λ s. s.entry)) (find_past (λ s. s.quarter == k) ss i w w (grind (arith, nat_tests, h.1)) (grind (arith, nat_tests)))
+          ∙ sym (on_first ss k)
+          ∙ sym (with_at_elsewhere (on_slips ss) w.quarter (Some w.entry) k ne)
+    ]
 
-pub slips_set : (n : ℕ) (ss : List Slip) (i : ℕ) (w : Slip) → Once n ss → quarter_on ss i ≡ Some w.quarter
+pub slips_set : (ss : List Slip) (i : ℕ) (w : Slip) → position (λ s. s.quarter == w.quarter) ss ≡ Some i
     → on_slips (slice_set ss i w) ≡ updated (on_slips ss) w.quarter w.entry
-slips_set n ss i w t e = fun_ext (slips_set_at n ss i w t e)
+slips_set ss i w e = fun_ext (slips_set_at ss i w e)
 
-pub once_set : (n : ℕ) (ss : List Slip) (i : ℕ) (w : Slip) → Once n ss → quarter_on ss i ≡ Some w.quarter → Once n (slice_set ss i w)
-once_set n [] i w t e = tt
-once_set n (s ∷ ss) zero w t e =
-    let m : s.quarter ≡ w.quarter = cc in
-    (omega arith, ap (on_slips ss) (sym m) ∙ t.1, t.2)
-once_set n (s ∷ ss) (suc i) w t e = (
-  t.0,
-  slips_set_at n ss i w t.2 e s.quarter
-      ∙ with_at_elsewhere (on_slips ss) w.quarter (Some w.entry) s.quarter (apart n s ss i w.quarter t e (slips_hit n ss i w.quarter t.2 e))
-      ∙ t.1,
-  once_set n ss i w t.2 e,
-)
+-- which quarters stand is as it was
+alike_cond : (b : Bool) (x y : Entry) (o r : Option Entry) → is_some o ≡ is_some r → is_some (cond b (Some x) o) ≡ is_some (cond b (Some y) r)
+alike_cond true x y o r e = refl
+alike_cond false x y o r e = e
+
+stand_set : (ss : List Slip) (i : ℕ) (w : Slip) → quarter_on ss i ≡ Some w.quarter → (k : ℕ) → is_some (on_slips (slice_set ss i w) k) ≡ is_some (on_slips ss k)
+stand_set [] i w e k = refl
+stand_set (s ∷ ss) zero w e k = let m : w.quarter ≡ s.quarter = cc in rw m (alike_cond (s.quarter == k) w.entry s.entry (on_slips ss k) (on_slips ss k) refl)
+stand_set (s ∷ ss) (suc i) w e k = alike_cond (s.quarter == k) s.entry s.entry (on_slips (slice_set ss i w) k) (on_slips ss k) (stand_set ss i w e k)
+
+once_set : (n : ℕ) (ss : List Slip) (i : ℕ) (w : Slip) → quarter_on ss i ≡ Some w.quarter → one_each n (slice_set ss i w) ≡ one_each n ss
+once_set n [] i w e = refl
+once_set n (s ∷ ss) zero w e = let m : w.quarter ≡ s.quarter = cc in rw m refl
+once_set n (s ∷ ss) (suc i) w e =
+    ap (λ b. nat_lt s.quarter n && (not b && one_each n (slice_set ss i w))) (stand_set ss i w e s.quarter)
+    ∙ ap (λ b. nat_lt s.quarter n && (not (is_some (on_slips ss s.quarter)) && b)) (once_set n ss i w e)
+
+pub one_each_set : (n : ℕ) (ss : List Slip) (i : ℕ) (w : Slip) → position (λ s. s.quarter == w.quarter) ss ≡ Some i → one_each n (slice_set ss i w) ≡ one_each n ss
+one_each_set n ss i w e = once_set n ss i w (slips_found ss w.quarter i e).quarter
 
 -- one more slip at the end
 none_parts : (s : Slip) (ss : List Slip) (q : ℕ) → on_slips (s ∷ ss) q ≡ None → (s.quarter ≢ q) × (on_slips ss q ≡ None)
@@ -100,13 +121,19 @@ slips_push_at : (ss : List Slip) (w : Slip) → on_slips ss w.quarter ≡ None �
 slips_push_at [] w e k = refl
 slips_push_at (s ∷ ss) w e k =
     let p = none_parts s ss w.quarter e in
-    ap (λ o. cond (s.quarter == k) (Some s.entry) o) (slips_push_at ss w p.1 k)
-    ∙ crossed k s.quarter w.quarter (Some s.entry) (Some w.entry) (on_slips ss k) p.0
+    grind (arith, nat_tests, p.0, slips_push_at ss w p.1 k)
 
 pub slips_push : (ss : List Slip) (w : Slip) → on_slips ss w.quarter ≡ None → on_slips (ss ++ w ∷ []) ≡ updated (on_slips ss) w.quarter w.entry
 slips_push ss w e = fun_ext (slips_push_at ss w e)
 
-pub once_push : (n : ℕ) (ss : List Slip) (w : Slip) → Once n ss → on_slips ss w.quarter ≡ None → w.quarter < n → Once n (ss ++ w ∷ [])
+test_from_once : (n : ℕ) (ss : List Slip) → Once n ss → one_each n ss ≡ true
+test_from_once n [] t = refl
+test_from_once n (s ∷ ss) t =
+    and_from (nat_lt s.quarter n) (not (is_some (on_slips ss s.quarter)) && one_each n ss)
+    (lt-ltb s.quarter n t.0)
+    (and_from (not (is_some (on_slips ss s.quarter))) (one_each n ss) (ap (λ o. not (is_some o)) t.1) (test_from_once n ss t.2))
+
+once_push : (n : ℕ) (ss : List Slip) (w : Slip) → Once n ss → on_slips ss w.quarter ≡ None → w.quarter < n → Once n (ss ++ w ∷ [])
 once_push n [] w t e h = (h, refl, tt)
 once_push n (s ∷ ss) w t e h =
     let p = none_parts s ss w.quarter e in (
@@ -114,3 +141,13 @@ once_push n (s ∷ ss) w t e h =
       slips_push_at ss w p.1 s.quarter ∙ with_at_elsewhere (on_slips ss) w.quarter (Some w.entry) s.quarter p.0 ∙ t.1,
       once_push n ss w t.2 p.1 h,
     )
+
+pub one_each_push : (n : ℕ) (ss : List Slip) (w : Slip) → one_each n ss ≡ true → on_slips ss w.quarter ≡ None → w.quarter < n → one_each n (ss ++ w ∷ []) ≡ true
+one_each_push n ss w t e h = test_from_once n (ss ++ w ∷ []) (once_push n ss w (once_from_test n ss t) e h)
+
+-- as many pairs as slips
+pub slips_counted : (n : ℕ) (ss : List Slip) → one_each n ss ≡ true → tally (on_slips ss) n ≡ length ss
+slips_counted n ss e = slips_tally n ss (once_from_test n ss e)
+
+-- what a put does
+pub ruleset putting = (slips_counted, slips_missed, stands_where_found, slips_set, one_each_set, slips_push, one_each_push)

@@ -1,5 +1,5 @@
 -- What a store answers to a put.
-use Rattle.std.specs.Prelude.{ℕ, cond, is_some, Some, None, Ok, Err, Option, Result, ◌==◌, nat_le}
+use Rattle.std.specs.Prelude.{ℕ, List, codes, cond, is_some, Some, None, Ok, Err, Option, Result, ◌==◌, nat_le}
 use Rattle.entries.specs.Pairs.{Pairs, tally}
 use Rattle.stores.specs.declared.store.PutRefusal.{PutRefusal}
 use Rattle.stores.specs.declared.store.PutRefusal.TheVariants.{Quarter, Full}
@@ -8,6 +8,11 @@ use Rattle.stores.specs.declared.store.PutRefusal.TheVariants.{Quarter, Full}
 abbrev pub put_refusal_number : PutRefusal → ℕ
 put_refusal_number Quarter = 4
 put_refusal_number Full = 10
+
+-- what a refusal prints: its name, and its number in brackets
+abbrev pub put_refusal_text : PutRefusal → List ℕ
+put_refusal_text Quarter = codes "QUARTER (4)"
+put_refusal_text Full = codes "FULL (10)"
 
 -- the number of the refusal in an answer; none where the pair was put
 abbrev pub refusal_in : Result (Unit {0}) PutRefusal → Option ℕ

@@ -1,20 +1,21 @@
 //! What every store promises.
-ghost use Rattle.std.specs.Prelude.{◌≡◌, ℕ, ◌≤◌, None, MatchResult};
+ghost use Rattle.std.specs.Prelude.{◌≡◌, ℕ, ◌≤◌, Some, None, MatchResult};
 ghost use Rattle.entries.specs.Pairs.{Pairs, no_pairs, updated, tally};
-ghost use Rattle.stores.specs.Puts.{put_refusal_number, refusal_in, put_refusal};
+ghost use Rattle.stores.specs.Puts.{put_refusal_number, put_refusal_text, refusal_in, put_refusal};
 
 use entries::entry::Entry;
+use std::fmt;
 
-/// The quarters of the longest year: no store has more places or slips.
-pub const MOST_QUARTERS: u64 = 35_136;
+// No store has more places or slips.
+pub use entries::quarters::MOST_QUARTERS;
 
 /// Why a pair was not put.
 #[derive(Clone, Copy, PartialEq, Eq, Debug)]
 pub enum PutRefusal {
     /// The quarter is at or beyond the store's reach.
-    Quarter,
+    Quarter = 4,
     /// The quarter has no pair, and as many pairs stand as the store can hold.
-    Full,
+    Full = 10,
 }
 
 impl PutRefusal {
@@ -22,12 +23,22 @@ impl PutRefusal {
     pub fn number(self) -> u64
         ensures { result ≡ put_refusal_number self }
     {
-        match self {
-            PutRefusal::Quarter => 4,
-            PutRefusal::Full => 10,
-        }
+        self as u64
     }
 }
+
+impl fmt::Display for PutRefusal {
+    ghost output = { λ refusal. Some (put_refusal_text refusal) };
+
+    fn fmt<W: fmt::Write>(&self, f: &mut fmt::Formatter<W>) -> fmt::Result {
+        f.write_str(match self {
+            PutRefusal::Quarter => "QUARTER (4)",
+            PutRefusal::Full => "FULL (10)",
+        })
+    }
+}
+
+impl std::error::Error for PutRefusal {}
 
 /// Anything that keeps entries by quarter. It holds pairs of a quarter and its entry: at most one pair a quarter,
 /// each quarter below the reach, and no more pairs than the capacity. Reach and capacity never change.
@@ -55,6 +66,7 @@ pub trait Store {
     /// Puts the pair in place of any older one for its quarter; every other pair remains. Refuses a quarter at or
     /// beyond the reach with QUARTER, then with FULL if the quarter has no pair and the count equals the capacity.
     /// A refusal leaves the store exactly as it was.
+    // A quarter and its entry are told as two here and in the book's calls: a slip that pairs them is one store's own.
     fn put(&mut self, quarter: u64, entry: Entry) -> Result<(), PutRefusal>
         ensures answer { refusal_in result ≡ put_refusal (reach self.old) (capacity self.old) (pairs self.old) quarter }
         ensures after { MatchResult result (λ _. pairs self.new ≡ updated (pairs self.old) quarter entry) (λ _. self.new ≡ self.old) }

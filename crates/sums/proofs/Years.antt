@@ -1,11 +1,13 @@
 -- The sums of a year: what one quarter's change makes of them, and that they balance.
-use Rattle.std.proofs.Common.{◌≡◌, ℕ, ◌+◌, ◌<◌, Bool, true, false, cond, ltb, Some, None, ap, arith}
+use Rattle.std.proofs.Common.{◌≡◌, ℕ, ◌+◌, ◌<◌, Bool, true, false, cond, ltb, Some, None, sym, ap, ◌∙◌, arith}
 use Rattle.entries.specs.declared.entry.Entry.{Entry}
 use Rattle.entries.specs.Pairs.{Pairs, most_quarters, no_pairs, updated, without, total}
 use Rattle.entries.proofs.Totals.{total_none, total_adds, total_le, total_added, total_replaced, total_removed}
 use Rattle.sums.specs.Quarter.{grid_draw, stored_feed_in, plant_draw, direct_feed_in, in_paid, in_zero}
 use Rattle.sums.specs.Year.{gather, totals}
-use Rattle.sums.specs.Sums.{Balanced, none, with_entry}
+use Rattle.sums.specs.declared.totals.Totals.{Totals}
+use Rattle.sums.specs.Sums.{Balanced, none, one, with_entry}
+use Rattle.sums.proofs.Cancel.{cancel}
 
 -- two ways to sum that agree on every amount make the same record
 pub gather_alike : (s r : (Entry → ℕ) → ℕ) → ((f : Entry → ℕ) → s f ≡ r f) → gather s ≡ gather r
@@ -46,3 +48,8 @@ totals_balanced p =
       total_le most_quarters grid_draw (λ e. e.readings.import) p (λ e. omega arith),
       total_le most_quarters stored_feed_in (λ e. e.readings.given) p (λ e. omega arith),
     )
+
+-- sums of which an entry that stands in the year made those of the year are those of the year without it
+pub before_in_year : (u : Totals) (p : Pairs) (q : ℕ) (old : Entry) → q < most_quarters → p q ≡ Some old → with_entry u old ≡ totals p
+    → u ≡ totals (without p q)
+before_in_year u p q old h stood before = cancel u (totals (without p q)) (one old) (before ∙ sym (totals_removed p q old h stood))

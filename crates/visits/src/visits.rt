@@ -1,8 +1,8 @@
 //! Runs of calls: a list of visits is attended by a new book, and every visit gets its answer.
-ghost use Rattle.std.specs.Prelude.{◌≡◌, ◌≤◌, [], map, length, IfOk, vec_capacity, MatchResult};
+ghost use Rattle.std.specs.Prelude.{◌≡◌, map, IfOk, MatchResult};
 ghost use Rattle.book.specs.Sheet.{blank};
-ghost use Rattle.book.specs.Books.{sheet_of, Kept, Attends, outcome_of};
-ghost use Rattle.book.specs.Runs.{Chain, RunLaw};
+ghost use Rattle.book.specs.Books.{sheet_of, Kept, Attends};
+ghost use Rattle.book.specs.Runs.{RunLaw};
 ghost use Rattle.visits.specs.Visits.{call_of, outcome_in};
 
 use book::book::Book;
@@ -23,19 +23,14 @@ pub enum Visit<'a, V, A, B, C> {
     Post(u64, Entry),
     /// Replace a quarter's entry.
     Amend(u64, Entry),
-    /// Enter what the series have at a quarter: the value list, Z1, Z2 and Z3.
-    Fetch(u64, &'a V, &'a A, &'a B, &'a C),
+    /// Enter what the series of a site have at a quarter.
+    Fetch(u64, Sources<'a, V, A, B, C>),
     /// Draw the statement.
     Draw,
 }
 
-/// What a visit is answered.
-#[derive(Drop)]
-pub enum Answer {
-    Accepted,
-    Refused(Refusal),
-    Drafted(Draft),
-}
+/// What a visit is answered: its refusal, or else the draft where it drew one.
+pub type Answer = Result<Option<Draft>, Refusal>;
 
 /// A book after a run, and the answer to each visit.
 #[derive(Drop)]
@@ -50,15 +45,6 @@ pub struct NoMemory<S> {
     pub store: S,
 }
 
-fn answer_of(r: Result<(), Refusal>) -> Answer
-    ensures { outcome_in result ≡ outcome_of r }
-{
-    match r {
-        Ok(()) => Answer::Accepted,
-        Err(refusal) => Answer::Refused(refusal),
-    }
-}
-
 /// Makes one call of the book.
 pub fn attend<S: Store, V: ValueList, A: Meter, B: Meter, C: Meter>(
     book: &mut Book<S>,
@@ -67,40 +53,19 @@ pub fn attend<S: Store, V: ValueList, A: Meter, B: Meter, C: Meter>(
     ensures { Attends S.Store book.old (call_of V.ValueList.own A.Meter.own B.Meter.own C.Meter.own visit.now) (outcome_in result) book.new }
 {
     match visit {
-        Visit::Begin(case, year) => answer_of(book.begin(*case, *year)),
-        Visit::Post(quarter, entry) => answer_of(book.post(*quarter, *entry)),
-        Visit::Amend(quarter, entry) => answer_of(book.amend(*quarter, *entry)),
-        Visit::Fetch(quarter, values, first, second, third) => {
-            let sources = Sources {
-                values: *values,
-                first: *first,
-                second: *second,
-                third: *third,
-            };
-            answer_of(book.fetch(*quarter, &sources))
-        }
-        Visit::Draw => Answer::Drafted(book.draw()),
+        Visit::Begin(case, year) => book.begin(*case, *year)?,
+        Visit::Post(quarter, entry) => book.post(*quarter, *entry)?,
+        Visit::Amend(quarter, entry) => book.amend(*quarter, *entry)?,
+        Visit::Fetch(quarter, sources) => book.fetch(*quarter, sources)?,
+        Visit::Draw => return Ok(Some(book.draw())),
     }
-}
-
-// Every visit in turn, with its answer. The answers' room was taken before.
-fn attend_each<S: Store, V: ValueList, A: Meter, B: Meter, C: Meter>(
-    book: &mut Book<S>,
-    visits: &[Visit<'_, V, A, B, C>],
-    answers: &mut Vec<Answer>,
-)
-    requires room { length visits.now ≤ vec_capacity answers.old }
-    requires none { answers.old.items ≡ [] }
-    ensures { Chain S.Store book.old (map (call_of V.ValueList.own A.Meter.own B.Meter.own C.Meter.own) visits.now) (map outcome_in answers.new.items) book.new }
-{
-    for visit in visits {
-        answers.push_reserved(attend(book, visit));
-    }
+    Ok(None)
 }
 
 /// Makes a book over the store and attends every visit in turn. Each visit, accepted or refused, gets the answer that a sheet kept by hand gives it, the book
 /// ends as the sheet does, every draft adds up, and what stands at each quarter is the entry of the last accepted visit that entered it.
 /// Where there is no memory for the answers nothing is attended, and the store comes back.
+#[tactic(auto, using(crate::proofs::Chains::chain_none, crate::proofs::Chains::chain_turn))]
 pub fn attend_all<S: Store, V: ValueList, A: Meter, B: Meter, C: Meter>(
     heap: Global,
     store: S,
@@ -113,6 +78,9 @@ pub fn attend_all<S: Store, V: ValueList, A: Meter, B: Meter, C: Meter>(
         return Err(NoMemory { store });
     };
     let mut book = Book::new(store);
-    attend_each(&mut book, visits, &mut answers);
+    // There is room for each answer, so nothing can fail between the visits.
+    for visit in visits {
+        answers.push_reserved(attend(&mut book, visit));
+    }
     Ok(Attended { book, answers })
 }

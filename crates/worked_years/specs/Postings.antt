@@ -1,5 +1,6 @@
 -- A year's entries as a list.
 use Rattle.std.specs.Prelude.{◌≡◌, ℕ, ◌+◌, Bool, true, not, ◌&&◌, List, [], ◌∷◌, ◌++◌, is_some, Some, nat_lt}
+use Rattle.std.specs.List.{list_all}
 use Rattle.entries.specs.declared.case.Case.{Case}
 use Rattle.entries.specs.declared.entry.Entry.{Entry}
 use Rattle.entries.specs.declared.readings.Mark.{Mark}
@@ -41,5 +42,4 @@ StopsAt xs m =
 
 -- every entry keeps the limits of the case
 abbrev pub all_within : Case → List Posting → Bool
-all_within c [] = true
-all_within c (x ∷ xs) = within_limits c x.entry && all_within c xs
+all_within c xs = list_all (λ x. within_limits c x.entry) xs

@@ -128,5 +128,5 @@ Right l =
     × AsTold l.import_even (ImportEven (totals (pairs_of l.postings)).readings.import l.figures)
 
 -- every year of the list is right
-abbrev pub YearsRight : Type 0
+unfoldable pub YearsRight : Type 0
 YearsRight = AllByRecursion Right years

@@ -1,21 +1,20 @@
 //! Works years that were worked by hand: from their entries through the sums to the figures, and compares.
 #![tactic(auto)]
 
-mod columns;
 mod work;
 mod years;
 
 use anyhow::anyhow;
-use columns::{Columns, NAMES};
-use figures::split::figures;
+use statements::draft::Draft;
+use statements::text::COLUMN_NAMES;
 use work::{all_fit, import_is_even, sum_up};
-use years::{WorkedYear, worked_year, years_listed};
+use years::{WorkedYear, worked_years};
 
 /// The calendar year that the worked years are printed under.
 const YEAR: u64 = 2026;
 
 /// How the years went.
-#[derive(Clone, Copy)]
+#[derive(Clone, Copy, Default)]
 struct Tally {
     worked: u64,
     fit: u64,
@@ -24,21 +23,13 @@ struct Tally {
 
 /// Works one year, prints its line, and counts how it went.
 fn work_year(rt: &HostRuntime, year: &WorkedYear, tally: Tally) -> anyhow::Result<Tally> {
-    let Ok(sums) = sum_up(&year.postings) else {
-        return Err(anyhow!("a sum would pass its limit"));
-    };
-    let drawn = figures(year.case, &sums);
-    let line = Columns {
-        case: year.case,
-        year: YEAR,
-        entries: year.postings.len(),
-        readings: sums.totals().readings,
-        figures: drawn,
-    };
-    println!(rt; "{line}")?;
+    let sums = sum_up(&year.postings).map_err(|_| anyhow!("a sum would pass its limit"))?;
+    let entries = year.postings.len() as u64;
+    let statement = Draft::draw_up(year.case, YEAR, entries, &sums).statement();
+    println!(rt; "{statement}")?;
     let fits = all_fit(year.case, &year.postings);
-    let even = import_is_even(line.readings.import, drawn);
-    let agrees = drawn == year.expected && even == year.import_even;
+    let even = import_is_even(statement.import, statement.figures);
+    let agrees = statement.figures == year.expected && even == year.import_even;
     Ok(Tally {
         worked: tally.worked.saturating_add(1),
         fit: tally.fit.saturating_add(u64::from(fits)),
@@ -46,25 +37,15 @@ fn work_year(rt: &HostRuntime, year: &WorkedYear, tally: Tally) -> anyhow::Resul
     })
 }
 
-fn run(rt: &HostRuntime) -> anyhow::Result<()> {
-    let mut tally = Tally {
-        worked: 0,
-        fit: 0,
-        agree: 0,
-    };
-    println!(rt; "{NAMES}")?;
-    for number in 0..years_listed() {
-        if let Some(year) = worked_year(rt.alloc(), number)? {
-            tally = work_year(rt, &year, tally)?;
-        }
+fn main(rt: HostRuntime) -> anyhow::Result<()> {
+    let mut tally = Tally::default();
+    println!(rt; "{COLUMN_NAMES}")?;
+    for year in &worked_years(rt.alloc())? {
+        tally = work_year(&rt, year, tally)?;
     }
     let Tally { worked, fit, agree } = tally;
     println!(rt;
         "{worked} years worked, {fit} with every entry within its limits, {agree} agree with the figures worked by hand"
     )?;
     Ok(())
-}
-
-fn main(rt: HostRuntime) -> anyhow::Result<()> {
-    run(&rt)
 }

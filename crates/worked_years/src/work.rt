@@ -11,6 +11,7 @@ use figures::figures::Figures;
 use sums::sums::Sums;
 
 /// The sums of the entries, or the mark whose sum would pass its limit first.
+#[tactic(auto, using(crate::proofs::Lists::sum_over_take))]
 pub(crate) fn sum_up(postings: &[Posting]) -> Result<Sums, Mark>
     ensures summed { MatchResult result (λ s. s.totals ≡ list_totals postings.now) (λ m. StopsAt postings.now m) }
     ensures year { apart postings.now ≡ true → IfOk result (λ s. s.totals ≡ year_totals (pairs_of postings.now)) }
@@ -26,12 +27,9 @@ pub(crate) fn sum_up(postings: &[Posting]) -> Result<Sums, Mark>
 pub(crate) fn all_fit(case: Case, postings: &[Posting]) -> bool
     ensures { result ≡ all_within case postings.now }
 {
-    for posting in postings {
-        if !posting.entry.within_limits(case) {
-            return false;
-        }
-    }
-    true
+    postings
+        .iter()
+        .all(|posting| posting.entry.within_limits(case))
 }
 
 /// Whether the import is levied, nettable or lost to the last Wh.

@@ -5,7 +5,7 @@ ghost use Rattle.stores.specs.Makes.{EmptyStore};
 ghost use Rattle.stores.specs.contracts.year_table.YearTableStore.TheImpl.{ghosts as year_table};
 
 use crate::store::MOST_QUARTERS;
-use crate::year_table::{YearTable, empty_places};
+use crate::year_table::YearTable;
 use std::alloc::{AllocError, Global};
 
 impl YearTable {
@@ -13,7 +13,8 @@ impl YearTable {
     pub fn new(heap: Global, places: u64) -> Result<YearTable, AllocError>
         ensures { IfOk result (EmptyStore year_table (min places most_quarters) (min places most_quarters)) }
     {
-        let places = empty_places(heap, places.min(MOST_QUARTERS))?;
+        let places = places.min(MOST_QUARTERS) as usize;
+        let places = vec![in heap; None; places]?;
         Ok(YearTable {
             places,
             standing: 0,

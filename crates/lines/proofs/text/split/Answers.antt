@@ -1,12 +1,9 @@
-use Rattle.std.proofs.Common.{refl}
-use Rattle.lines.proofs.Cuts.{cut_at, cut_all, text_at, lacks_more}
+use Rattle.std.proofs.Common.{rules}
+use Rattle.lines.proofs.Cuts.{cut_at, cut_whole}
 use Rattle.lines.proofs.text.split.Goals as goal
 
-pub loop-i-preserved : goal.loop-i-preserved
-loop-i-preserved c = lacks_more _ _ _ c.loop-i-test.true c.loop-i.invariant c.if-b-at.false
+pub returns-in-Some-clause-cuts : goal.returns-in-Some-clause-cuts
+returns-in-Some-clause-cuts c = cut_at _ _ _ (search rules) (search rules) (search rules)
 
-pub returns-then-b-at : goal.returns-then-b-at
-returns-then-b-at c = record { cuts = cut_at _ _ _ c.loop-i-test.true c.loop-i.invariant c.if-b-at.true; rest = text_at _ _ _ c.loop-i-test.true c.if-b-at.true }
-
-pub returns : goal.returns
-returns c = record { cuts = cut_all _ _ c.loop-i.i c.loop-i-test.false c.loop-i.invariant; rest = refl }
+pub returns-in-None-clause-cuts : goal.returns-in-None-clause-cuts
+returns-in-None-clause-cuts c = cut_whole _ _ (search rules)

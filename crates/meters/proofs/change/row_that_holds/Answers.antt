@@ -1,26 +1,13 @@
-use Rattle.std.proofs.Common.{get_or, Some, None, ◌∙◌}
-use Rattle.std.proofs.lemmas.Option.{slice_get-get_or}
-use Rattle.meters.specs.Changes.{LastThatHolds}
-use Rattle.meters.proofs.Held.{last_is_held, held_is_last}
+use Rattle.std.proofs.Common.{◌∙◌, ◌<◌, ◌≤◌, rules, tests}
+use Rattle.std.proofs.lemmas.Iterator.{first_from_find}
+use Rattle.std.proofs.lemmas.Iterator.Adapters.{YieldsList-from_rev_slice}
+use Rattle.meters.specs.declared.change.Change.{Change}
+use Rattle.meters.proofs.Held.{first_is_last, one_last, held_is_last}
 use Rattle.meters.proofs.change.row_that_holds.Goals as goal
 
-pub returns-in_err-place : goal.returns-in_err-place
-returns-in_err-place c =
+pub returns-clause-row : goal.returns-clause-row
+returns-clause-row c =
     let rows = c.args.rows.now in
-    let last : LastThatHolds rows c.args.quarter None = c.in_err-place.ensures in
-    record {
-      row = c.from_residual.ensures ∙ last_is_held rows c.args.quarter None last;
-      last = held_is_last rows c.args.quarter None last;
-    }
-
-pub returns : goal.returns
-returns c =
-    let rows = c.args.rows.now in
-    let i = c.in_ok-place.place in
-    let row = get_or rows i record { quarter = 0; value = 0 } in
-    let found = c.in_ok-place.ensures in
-    let last : LastThatHolds rows c.args.quarter (Some row) = (i, slice_get-get_or rows i _ found.0, found.1, found.2) in
-    record {
-      row = last_is_held rows c.args.quarter (Some row) last;
-      last = held_is_last rows c.args.quarter (Some row) last;
-    }
+    let q = c.args.quarter in
+    let found = first_from_find _ _ c.find.result (λ (x : Change). x.quarter ≤ q) (λ (x : Change). q < x.quarter) c.find.ensures.ran (YieldsList-from_rev_slice rows cc) (λ x f k. search (rules, tests)) (λ x f k. search (rules, tests)) in
+    c.copied.ensures ∙ one_last rows q _ _ (first_is_last rows q c.find.result found) (held_is_last rows q)

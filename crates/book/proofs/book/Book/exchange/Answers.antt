@@ -1,31 +1,25 @@
-use Rattle.std.proofs.Common.{◌≡◌, Some, subst}
-use Rattle.entries.specs.Pairs.{without}
-use Rattle.sums.specs.declared.sums.ReplaceRefusal.{ReplaceRefusal}
-use Rattle.sums.specs.declared.sums.ReplaceRefusal.TheVariants.{NotHeld, Over}
-use Rattle.sums.specs.Sums.{past}
-use Rattle.sums.specs.Year.{totals}
-use Rattle.book.proofs.Steps.{settled_exchanged, untouched}
+use Rattle.std.proofs.Common.{rules}
+use Rattle.book.specs.Books.{sheet_of}
+use Rattle.book.specs.Sheet.{Sheet}
+use Rattle.book.proofs.Keeping.{admitted_within}
 use Rattle.book.proofs.book.Book.exchange.Goals as goal
 
-pub returns-in-Ok : goal.returns-in-Ok
-returns-in-Ok g c =
-    settled_exchanged g.S.Store c.args.self.now c.settle.new.self c.in-Ok.sums.totals c.args.quarter c.args.old c.args.entry
-    c.settle.result c.in-Ok.ensures.year c.settle.ensures
+pub returns-in_err-sums : goal.returns-in_err-sums
+returns-in_err-sums g c =
+    let s : Sheet = sheet_of g.S.Store c.args.self.now in
+    let below = admitted_within s c.args.quarter c.args.entry c.requires.admitted in
+    let year = c.in_err-sums.ensures.year s.pairs c.args.quarter c.args.self.now.in_order.sums below c.requires.stands in
+    search rules
 
-pub returns-in-Over : goal.returns-in-Over
-returns-in-Over g c = (
-  (λ p k was below stood.
-      let P : ReplaceRefusal → Type 0 = λ x. elim x [ NotHeld ↦ ⊥ | Over m ↦ past (totals (without p k)) c.args.entry ≡ Some m ] in
-      subst P c.in-Over.is
-      (c.in-Err.ensures.year p k was below stood)),
-  untouched c.args.self.now,
-)
+pub settle-requires-clause-sums : goal.settle-requires-clause-sums
+settle-requires-clause-sums g c =
+    let s : Sheet = sheet_of g.S.Store c.args.self.now in
+    let below = admitted_within s c.args.quarter c.args.entry c.requires.admitted in
+    (c.in_ok-sums.ensures.year s.pairs c.args.quarter c.args.self.now.in_order.sums below c.requires.stands).1
 
-pub returns-in-NotHeld : goal.returns-in-NotHeld
-returns-in-NotHeld g c = (
-  (λ u before.
-      let P : ReplaceRefusal → Type 0 = λ x. elim x [ NotHeld ↦ ⊥ | Over m ↦ past u c.args.entry ≡ Some m ] in
-      subst P c.in-NotHeld.is
-      (c.in-Err.ensures.held u before)),
-  untouched c.args.self.now,
-)
+pub returns : goal.returns
+returns g c =
+    let s : Sheet = sheet_of g.S.Store c.args.self.now in
+    let below = admitted_within s c.args.quarter c.args.entry c.requires.admitted in
+    let year = c.in_ok-sums.ensures.year s.pairs c.args.quarter c.args.self.now.in_order.sums below c.requires.stands in
+    search rules
