@@ -120,7 +120,7 @@ fn make_site(heap: Global) -> Result<Site, AllocError> {
 }
 
 /// An entry with import, feed-in, drawn and given energy, at a value.
-fn entry(import: u64, feed_in: u64, drawn: u64, given: u64, value: u64) -> Entry {
+pub(crate) fn entry(import: u64, feed_in: u64, drawn: u64, given: u64, value: u64) -> Entry {
     Entry {
         readings: Readings {
             import,

@@ -1,11 +1,8 @@
 //! A year from its begin to a filed statement: the draft is confirmed by the grid operator's totals and filed under a number, with each refusal on the way.
-#![tactic(auto)]
-
+use crate::book_tour::entry;
 use anyhow::anyhow;
 use book::book::Book;
 use book::refusal::Refusal;
-use entries::entry::Entry;
-use entries::readings::Readings;
 use statements::confirmed::Confirmed;
 use statements::draft::Draft;
 use statements::filed::Filed;
@@ -19,13 +16,6 @@ use stores::store::Store;
 /// The number that the year's statement is filed under.
 const FILE_NUMBER: u64 = 4_711;
 
-/// What a quarter has: import, feed-in, drawn and given energy, and the value.
-const QUARTERS: [(u64, u64, u64, u64, u64); 3] = [
-    (100, 0, 100, 0, 700),
-    (0, 60, 0, 90, 700),
-    (0, 40, 0, 60, 0),
-];
-
 /// Prints what a print answered: the text that stands at the buffer's front, or the refusal.
 fn print_text(rt: &HostRuntime, buffer: &[u8], printed: Result<usize, Short>) -> io::Result<()> {
     match printed {
@@ -38,16 +28,9 @@ fn print_text(rt: &HostRuntime, buffer: &[u8], printed: Result<usize, Short>) ->
 fn entered<S: Store + Drop>(store: S) -> Result<Book<S>, Refusal> {
     let mut book = Book::new(store);
     book.begin(1, 2026)?;
-    for (quarter, (import, feed_in, drawn, given, value)) in (0..).zip(QUARTERS) {
-        let readings = Readings {
-            import,
-            feed_in,
-            drawn,
-            given,
-            ..Readings::default()
-        };
-        book.post(quarter, Entry { readings, value })?;
-    }
+    book.post(0, entry(100, 0, 100, 0, 700))?;
+    book.post(1, entry(0, 60, 0, 90, 700))?;
+    book.post(2, entry(0, 40, 0, 60, 0))?;
     Ok(book)
 }
 
@@ -87,19 +70,19 @@ fn close_year(rt: &HostRuntime, draft: Draft) -> anyhow::Result<Filed> {
     Ok(confirmed.file(FILE_NUMBER)?)
 }
 
-/// The whole year.
-fn main(rt: HostRuntime) -> anyhow::Result<()> {
+/// The whole tour.
+pub(crate) fn run(rt: &HostRuntime) -> anyhow::Result<()> {
     let book = entered(SlipBox::new(rt.alloc(), 4)?)?;
     let draft = book.draw();
     let mut short = [0u8; PRINT_LENGTH - 1];
     let printed = draft.print(&mut short);
-    print_text(&rt, &short, printed)?;
+    print_text(rt, &short, printed)?;
     let mut buffer = [0u8; PRINT_LENGTH];
     let printed = draft.print(&mut buffer);
-    print_text(&rt, &buffer, printed)?;
-    let filed = close_year(&rt, draft)?;
+    print_text(rt, &buffer, printed)?;
+    let filed = close_year(rt, draft)?;
     let printed = filed.print(&mut buffer);
-    print_text(&rt, &buffer, printed)?;
+    print_text(rt, &buffer, printed)?;
     let entries = filed.statement().entries;
     let number = filed.number();
     println!(rt;
