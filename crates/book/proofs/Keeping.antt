@@ -1,9 +1,8 @@
 -- What keeps a sheet in order.
-use Rattle.std.proofs.Common.{◌≡◌, subst, ℕ, ◌%◌, ◌<◌, ◌≤◌, Bool, true, false, cond, not, ◌&&◌, eqb, ltb, [], ◌∷◌, is_some, Some, None, Option, sym, refl, ap, ◌∙◌, ⊎_elim, arith}
-use Rattle.std.proofs.Props.{props}
+use Rattle.std.proofs.Common.{◌≡◌, ℕ, ◌%◌, ◌<◌, ◌≤◌, Bool, true, false, cond, not, ◌&&◌, eqb, ltb, [], ◌∷◌, is_some, Some, None, Option, sym, refl, ap, ◌∙◌, ⊎_elim, arith}
 use Rattle.stores.specs.declared.store.Store.{Ghosts}
 use Rattle.book.specs.declared.book.Book.{Book}
-use Rattle.book.specs.Books.{sheet_of}
+use Rattle.book.specs.Books.{sheet_of, Kept}
 use Rattle.std.proofs.lemmas.Bool.{ltb-true, cases_eq}
 use Rattle.std.proofs.lemmas.Bool.Decides.{nat_tests}
 use Rattle.entries.specs.declared.entry.Entry.{Entry}
@@ -46,7 +45,7 @@ quarters_by true b = omega arith
 quarters_by false true = omega arith
 quarters_by false false = omega arith
 
-quarters_within : (y : ℕ) → quarters y ≤ most_quarters
+pub quarters_within : (y : ℕ) → quarters y ≤ most_quarters
 unfolding quarters
 quarters_within y = quarters_by (eqb y 0) (eqb (y % 4) 0)
 
@@ -67,24 +66,17 @@ pub unbegun : quarters 0 ≡ 0
 unfolding quarters
 unbegun = refl
 
-in_order_once : (s : Sheet) (t : Totals) → IsProp (InOrder s t)
-in_order_once s t = hlevel props
-
-module _ {S : Type 0} {m : Ghosts S} where
-  -- a book with its store put back as it was is the same book
-  pub same_book : (b : Book S m) (x : S) (h : InOrder (sheet_over m x b.case b.year) b.sums.totals) → x ≡ b.store
-      → record { store = x; sums = b.sums; case = b.case; year = b.year; in_order = h } ≡ b
-  same_book b x h e =
-      let P : S → Type 0 = λ y. (k : InOrder (sheet_over m y b.case b.year) b.sums.totals) → record { store = y; sums = b.sums; case = b.case; year = b.year; in_order = k } ≡ b in
-      let at : P b.store = λ k. ap (λ (w : InOrder (sheet_over m b.store b.case b.year) b.sums.totals). record { store = b.store; sums = b.sums; case = b.case; year = b.year; in_order = w }) (in_order_once _ _ k b.in_order) in
-      subst P (sym e) at h
+module _ {S : Type 0} (m : Ghosts S) where
+  -- the sums of a kept book, opened as b, are those of its entries
+  pub year_sums : {b b' : Book S} → b ≡ b' → Kept m b → b.sums.totals ≡ totals (m.pairs b'.store)
+  year_sums same k = k.sums ∙ ap (λ x. totals (m.pairs x.store)) same
 
   -- a store with an admitted entry put into it keeps the order, with the sums that go with it
-  pub settled_in_order : (b : Book S m) (x : S) (u : Totals) (q : ℕ) (e : Entry) → m.pairs x ≡ updated (m.pairs b.store) q e
+  pub settled_in_order : (b : Book S) → Kept m b → (x : S) (u : Totals) (q : ℕ) (e : Entry) → m.pairs x ≡ updated (m.pairs b.store) q e
       → u ≡ totals (updated (m.pairs b.store) q e) → m.reach x ≡ m.reach b.store → first_failing (admitted (sheet_of m b) q e) ≡ None
       → InOrder (sheet_over m x b.case b.year) u
-  settled_in_order b x u q e is sum same adm =
-      rw (is, same) (record { sums = sum; within = λ j y stood. ⊎_elim (here j y stood) (elsewhere j y stood) (cases_eq j q); reached = b.in_order.reached })
+  settled_in_order b k x u q e is sum same adm =
+      rw (is, same) (record { sums = sum; within = λ j y stood. ⊎_elim (here j y stood) (elsewhere j y stood) (cases_eq j q); reached = k.reached })
     where
       a : Admitted (sheet_of m b) q e
       a = is_admitted (sheet_of m b) q e adm
@@ -96,21 +88,21 @@ module _ {S : Type 0} {m : Ghosts S} where
           (omega (arith, at, a.below), ap (within_limits b.case) (sym entry) ∙ a.fits)
 
       elsewhere : (j : ℕ) (y : Entry) → updated (m.pairs b.store) q e j ≡ Some y → (j ≡ q → ⊥) → (j < quarters b.year) × (within_limits b.case y ≡ true)
-      elsewhere j y stood apart = b.in_order.within j y (sym (with_at_elsewhere (m.pairs b.store) q (Some e) j apart) ∙ stood)
+      elsewhere j y stood apart = k.within j y (sym (with_at_elsewhere (m.pairs b.store) q (Some e) j apart) ∙ stood)
 
   -- a put of an admitted entry within the reach is refused only where there is no room
-  pub put_told : (b : Book S m) (q : ℕ) (e : Entry) (p : PutRefusal)
+  pub put_told : (b : Book S) → Kept m b → (q : ℕ) (e : Entry) (p : PutRefusal)
       → Some (put_refusal_number p) ≡ put_refusal (m.reach b.store) (m.capacity b.store) (m.pairs b.store) q
       → first_failing (admitted (sheet_of m b) q e) ≡ None → tally (m.pairs b.store) (m.reach b.store) ≤ m.capacity b.store
       → first_failing (room_at (sheet_of m b) q) ≡ Some (told (put_refused p))
-  put_told b q e OutOfReach h adm fit =
+  put_told b k q e OutOfReach h adm fit =
       let below = (is_admitted (sheet_of m b) q e adm).below in
-      let reached = b.in_order.reached in
+      let reached = k.reached in
       absurd (let z : ⊥ = grind (arith, nat_tests) in z)
-  put_told b q e NoRoom h adm fit = grind (arith, nat_tests)
+  put_told b k q e NoRoom h adm fit = grind (arith, nat_tests)
 
   -- the sums with an admitted entry that is new at its quarter
-  pub new_sums : (b : Book S m) (q : ℕ) (e : Entry) (u : Totals) → u ≡ with_entry b.sums.totals e → m.pairs b.store q ≡ None
+  pub new_sums : (b : Book S) → Kept m b → (q : ℕ) (e : Entry) (u : Totals) → u ≡ with_entry b.sums.totals e → m.pairs b.store q ≡ None
       → first_failing (admitted (sheet_of m b) q e) ≡ None → u ≡ totals (updated (m.pairs b.store) q e)
-  new_sums b q e u sum none adm =
-      sum ∙ ap (λ (t : Totals). with_entry t e) b.in_order.sums ∙ sym (totals_added (m.pairs b.store) q e (admitted_within (sheet_of m b) q e adm) none)
+  new_sums b k q e u sum none adm =
+      sum ∙ ap (λ (t : Totals). with_entry t e) k.sums ∙ sym (totals_added (m.pairs b.store) q e (admitted_within (sheet_of m b) q e adm) none)

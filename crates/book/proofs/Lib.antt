@@ -1,2 +1,4 @@
 pub mod Keeping
 pub mod Runs
+pub mod Checks
+pub mod Attending

@@ -134,11 +134,11 @@ law_of_run reach capacity cs =
     }
 
 module _ {S : Type 0} (m : Ghosts S) where
-  record Followed (b : Book S m) (cs : List Call) (os : List Outcome) (b' : Book S m) : Type 0 where
+  record Followed (b : Book S) (cs : List Call) (os : List Outcome) (b' : Book S) : Type 0 where
     answers : os ≡ outcomes (sheet_of m b) cs
     sheet : sheet_of m b' ≡ final (sheet_of m b) cs
 
-  followed : {b b' : Book S m} {cs : List Call} {os : List Outcome} → Chain m b cs os b' → Followed b cs os b'
+  followed : {b b' : Book S} {cs : List Call} {os : List Outcome} → Chain m b cs os b' → Followed b cs os b'
   unfolding outcomes final
   followed no_call = record { answers = refl; sheet = refl }
   followed (one_more {b} {b₁} {b₂} {c} {o} {cs} {os} a h) =
@@ -150,7 +150,7 @@ module _ {S : Type 0} (m : Ghosts S) where
       }
 
   -- and so does every chain of calls on a book that begins with one
-  pub law_of_chain : {b b' : Book S m} {cs : List Call} {os : List Outcome} (reach capacity : ℕ) → Chain m b cs os b' → sheet_of m b ≡ blank reach capacity
+  pub law_of_chain : {b b' : Book S} {cs : List Call} {os : List Outcome} (reach capacity : ℕ) → Chain m b cs os b' → sheet_of m b ≡ blank reach capacity
       → RunLaw (blank reach capacity) cs os (sheet_of m b')
   law_of_chain {b} {b'} {cs} {os} reach capacity h new =
       let f = followed h in
@@ -160,11 +160,12 @@ module _ {S : Type 0} (m : Ghosts S) where
       (subst (λ (xs : List Outcome). RunLaw (blank reach capacity) cs xs (final (blank reach capacity) cs)) (sym answers) (law_of_run reach capacity cs))
 
   -- one call more at the end of a chain
-  pub chain_push : {b b₁ b₂ : Book S m} {c : Call} {o : Outcome} {cs : List Call} {os : List Outcome} → Chain m b cs os b₁ → Attends m b₁ c o b₂
+  pub chain_push : {b b₁ b₂ : Book S} {c : Call} {o : Outcome} {cs : List Call} {os : List Outcome} → Chain m b cs os b₁ → Attends m b₁ c o b₂
       → Chain m b (cs ++ (c ∷ [])) (os ++ (o ∷ [])) b₂
   chain_push no_call a = one_more a no_call
   chain_push (one_more x h) a = one_more x (chain_push h a)
 
--- a book after a chain is kept, as every book is
-pub chain_kept : {S : Type 0} {m : Ghosts S} {b b' : Book S m} {cs : List Call} {os : List Outcome} → Chain m b cs os b' → Kept m b'
-chain_kept {b' = b'} h = b'.in_order
+  -- a chain keeps the book
+  pub chain_kept : {b b' : Book S} {cs : List Call} {os : List Outcome} → Chain m b cs os b' → Kept m b → Kept m b'
+  chain_kept no_call k = k
+  chain_kept (one_more a h) k = chain_kept h a.kept

@@ -3,11 +3,19 @@ use Rattle.std.specs.Prelude.{◌≡◌, ℕ, ◌<◌, ◌≤◌, true, Some}
 use Rattle.entries.specs.declared.case.Case.{Case}
 use Rattle.entries.specs.declared.entry.Entry.{Entry}
 use Rattle.entries.specs.Entries.{within_limits}
+use Rattle.sums.specs.declared.sums.Sums.{Sums}
 use Rattle.sums.specs.declared.totals.Totals.{Totals}
 use Rattle.sums.specs.Year.{totals}
 use Rattle.stores.specs.declared.store.Store.{Ghosts}
 use Rattle.book.specs.Calendar.{quarters}
 use Rattle.book.specs.Sheet.{Sheet}
+
+-- what a book over a store of this type holds
+pub record BookFields (S : Type 0) : Type 0 where
+  pub store : S
+  pub sums : Sums
+  pub case : Case
+  pub year : ℕ
 
 -- the sheet that a store of this make keeps in a case and a year
 abbrev pub sheet_over : {S : Type 0} → Ghosts S → S → Case → ℕ → Sheet

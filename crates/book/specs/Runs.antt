@@ -93,11 +93,11 @@ pub record RunLaw (s : Sheet) (cs : List Call) (os : List Outcome) (t : Sheet) :
   pub stands : (q : ℕ) → StandsBy t.case q (pair_up cs os) (t.pairs q)
 
 -- a chain of single calls on a book, each with series of its own types
-pub data Chain {S : Type 0} (m : Ghosts S) : Book S m → List Call → List Outcome → Book S m → Type 0 where
-  no_call : {b : Book S m} → Chain m b [] [] b
-  one_more : {b b₁ b₂ : Book S m} {c : Call} {o : Outcome} {cs : List Call} {os : List Outcome}
+pub data Chain {S : Type 0} (m : Ghosts S) : Book S → List Call → List Outcome → Book S → Type 0 where
+  no_call : {b : Book S} → Chain m b [] [] b
+  one_more : {b b₁ b₂ : Book S} {c : Call} {o : Outcome} {cs : List Call} {os : List Outcome}
       → Attends m b c o b₁ → Chain m b₁ cs os b₂ → Chain m b (c ∷ cs) (o ∷ os) b₂
 
 -- whatever chain of calls follows on the book b, it keeps the law of a run from a blank sheet
-abbrev pub Lawful : {S : Type 0} (m : Ghosts S) → Book S m → ℕ → ℕ → Type 0
-Lawful {S} m b reach capacity = (b' : Book S m) (cs : List Call) (os : List Outcome) → Chain m b cs os b' → RunLaw (blank reach capacity) cs os (sheet_of m b')
+abbrev pub Lawful : {S : Type 0} → Ghosts S → Book S → ℕ → ℕ → Type 0
+Lawful {S} m b reach capacity = (b' : Book S) (cs : List Call) (os : List Outcome) → Chain m b cs os b' → RunLaw (blank reach capacity) cs os (sheet_of m b')

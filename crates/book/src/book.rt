@@ -1,5 +1,5 @@
 //! The book.
-ghost use Rattle.book.specs.Order.{sheet_over, InOrder};
+ghost use Rattle.book.specs.Order.{BookFields, sheet_over, InOrder};
 
 use crate::calendar::quarters_of;
 use crate::refusal::Refusal;
@@ -8,6 +8,7 @@ use entries::case::Case;
 use entries::entry::Entry;
 use series::series::{Meter, ValueList};
 use statements::draft::Draft;
+use std::marker::Model;
 use stores::any_store::covers;
 use stores::store::Store;
 use sums::sums::Sums;
@@ -26,7 +27,14 @@ pub struct Book<S: Store> {
     sums: Sums,
     case: Case,
     year: u64,
-    pub ghost in_order: { InOrder (sheet_over S.Store store case year) sums.totals },
+}
+
+impl<S: Store> Model for Book<S> {
+    ghost Value = { BookFields S };
+
+    ghost view = { λ b. record { store = b.store; sums = b.sums; case = b.case; year = b.year } };
+
+    ghost invariant = { λ b. InOrder (sheet_over S.Store b.store b.case b.year) b.sums.totals };
 }
 
 #[tactic(auto, unfolding(crate::specs::Sheet::outcome, crate::specs::Sheet::after))]
@@ -61,7 +69,8 @@ impl<S: Store> Book<S> {
 
     // Whether the quarter is one of the year, and the entry within its limits.
     fn admit(&self, quarter: u64, entry: Entry) -> Result<(), Refusal>
-        ensures { refusal_in result ≡ first_failing (admitted (sheet_of S.Store self.now) quarter entry) }
+        ensures answer { refusal_in result ≡ first_failing (admitted (sheet_of S.Store self.now) quarter entry) }
+        ensures kept { Kept S.Store self.now }
     {
         if quarter >= quarters_of(self.year) {
             return Err(Refusal::Quarter);
@@ -113,7 +122,8 @@ impl<S: Store> Book<S> {
     // Leaves no entry, and writes down case and year.
     fn start(&mut self, case: Case, year: u64)
         requires { quarters year ≤ S.Store.reach self.old.store }
-        ensures { sheet_of S.Store self.new ≡ begun (sheet_of S.Store self.old) case year }
+        ensures sheet { sheet_of S.Store self.new ≡ begun (sheet_of S.Store self.old) case year }
+        ensures kept { Kept S.Store self.new }
     {
         self.store.clear();
         self.sums = Sums::new();
@@ -126,6 +136,8 @@ impl<S: Store> Book<S> {
     pub fn begin(&mut self, case: u64, year: u64) -> Result<(), Refusal>
         ensures { Attends S.Store self.old (begin case year) (outcome_of result) self.new }
     {
+        // That the book is kept is known from the first use of a field on, and a call that is refused at once has none.
+        let _ = &self.year;
         let case = Case::try_from(case)?;
         if !(FIRST_YEAR..=LAST_YEAR).contains(&year) {
             return Err(Refusal::Year);

@@ -82,7 +82,7 @@ pub share_le : (g s w : ℕ) → s ≤ w → g * s / w ≤ g
 share_le g s w h = div-le_of_le-mul w (omega (arith, mul-le-mul_left g h, mul_comm w g))
 
 -- a number that is not below 0, as a natural number
-or_nothing_of_nonnegative : (z : ℤ) → pos 0 ≤ℤ z → pos (or_nothing z) ≡ z
+pub or_nothing_of_nonnegative : (z : ℤ) → pos 0 ≤ℤ z → pos (or_nothing z) ≡ z
 or_nothing_of_nonnegative (pos n) h = refl
 or_nothing_of_nonnegative (negsuc n) h = absurd (omega (arith, ints))
 

@@ -30,7 +30,7 @@ module _ {A : Type 0} (n : ℕ) (next : A → Ending) where
   read_stops (Ok y) stop h = let z : ◌≡◌ {A = ℕ} 0 1 = cc in absurd (omega arith)
   read_stops (Err e) stop h = let same : misread_stop n e ≡ stop = cc in ap stop_end same
 
-module _ {S : Type 0} (m : Ghosts S) (n : ℕ) (b b' : Book S m) (c : Call) (next : Sheet → Ending) where
+module _ {S : Type 0} (m : Ghosts S) (n : ℕ) (b b' : Book S) (c : Call) (next : Sheet → Ending) where
   -- an accepted call goes on from the sheet of the book after it
   pub call_goes_on : (r : Result (Unit {0}) Refusal) (x : Unit {0}) → Attends m b c (outcome_of r) b' → told_at n r ≡ Ok x → call_then n (sheet_of m b) c next ≡ next (sheet_of m b')
   call_goes_on (Ok y) x a h =
@@ -46,7 +46,7 @@ module _ {S : Type 0} (m : Ghosts S) (n : ℕ) (b b' : Book S m) (c : Call) (nex
       ap (λ o. answered_then n o (next (after (sheet_of m b) c))) (sym a.told.answer) ∙ ap stop_end same
 
 -- a line of values that spells the entry e of the quarter q, once its post is answered
-pub row_entered : {S : Type 0} (m : Ghosts S) (ns : List Column) (n : ℕ) (b b' : Book S m) (l : List ℕ) (row : ℕ × Entry) (r : Result (Unit {0}) Refusal) → at_line (n + 1) (spelt ns l) ≡ Ok row → Attends m b (post row.0 row.1) (outcome_of r) b' → (a : Result (Unit {0}) Stop) → told_at (n + 1) r ≡ a → Enters m ns (sheet_of m b) n l a b'
+pub row_entered : {S : Type 0} (m : Ghosts S) (ns : List Column) (n : ℕ) (b b' : Book S) (l : List ℕ) (row : ℕ × Entry) (r : Result (Unit {0}) Refusal) → at_line (n + 1) (spelt ns l) ≡ Ok row → Attends m b (post row.0 row.1) (outcome_of r) b' → (a : Result (Unit {0}) Stop) → told_at (n + 1) r ≡ a → Enters m ns (sheet_of m b) n l a b'
 unfolding rows_end
 row_entered m ns n b b' l row r read attends (Ok x) told =
     λ ls. read_goes_on (n + 1) _ (spelt ns l) row read ∙ call_goes_on m (n + 1) b b' (post row.0 row.1) (λ t. rows_end ns t (n + 1) ls) r x attends told
@@ -59,7 +59,7 @@ unfolding lines
 no_lines text h = ap lines h
 
 -- the same ending by another name
-pub ends_as : {S : Type 0} (m : Ghosts S) (r : Result (Unit {0}) Stop) (b : Book S m) {e e' : Ending} → e ≡ e' → Ends m e r b → Ends m e' r b
+pub ends_as : {S : Type 0} (m : Ghosts S) (r : Result (Unit {0}) Stop) (b : Book S) {e e' : Ending} → e ≡ e' → Ends m e r b → Ends m e' r b
 ends_as m r b h h' = subst (λ e. Ends m e r b) h h'
 
 -- how the names of the columns are read

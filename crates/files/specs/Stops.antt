@@ -54,11 +54,11 @@ abbrev pub note_of : Stop → RefusalNote
 note_of s = record { number = stopped_number s.cause; line = s.line; place = place_beside (stopped_values s.cause) }
 
 -- lines that end so leave a book that stands for the statement, or stop
-abbrev pub Ends : {S : Type 0} (m : Ghosts S) → Ending → Result (Unit {0}) Stop → Book S m → Type 0
+abbrev pub Ends : {S : Type 0} → Ghosts S → Ending → Result (Unit {0}) Stop → Book S → Type 0
 Ends m end (Ok x) b = end ≡ stated (statement (sheet_of m b))
 Ends m end (Err stop) b = end ≡ stop_end stop
 
 -- a line of values after n lines, on the sheet s: it stops the input, or the lines after it end as they do on the book's sheet
-abbrev pub Enters : {S : Type 0} (m : Ghosts S) → List Column → Sheet → ℕ → List ℕ → Result (Unit {0}) Stop → Book S m → Type 0
+abbrev pub Enters : {S : Type 0} → Ghosts S → List Column → Sheet → ℕ → List ℕ → Result (Unit {0}) Stop → Book S → Type 0
 Enters m ns s n row (Ok x) b = (ls : List (List ℕ)) → rows_end ns s n (row ∷ ls) ≡ rows_end ns (sheet_of m b) (n + 1) ls
 Enters m ns s n row (Err stop) b = (ls : List (List ℕ)) → rows_end ns s n (row ∷ ls) ≡ stop_end stop

@@ -1,6 +1,6 @@
 //! The line that names a file's columns.
 ghost use Rattle.std.specs.Prelude.{◌≡◌, ℕ, ◌+◌, ◌<◌, true, List, [], ◌∷◌, length, Ok, Err, MatchResult};
-ghost use Rattle.lines.specs.Names.{has, has_all, column_of, new_column, columns_from, columns_in, Names, Misnamed, Misnames};
+ghost use Rattle.lines.specs.Names.{same_column, has, has_all, column_of, new_column, columns_from, columns_in, Names, Misnamed, Misnames};
 ghost use Rattle.lines.specs.Columns.{names};
 
 use crate::column::Column;
@@ -47,6 +47,13 @@ fn column_named(name: &[u8]) -> Option<Column>
     }
 }
 
+// Whether two columns are the same.
+fn same(column: Column, other: Column) -> bool
+    ensures { result ≡ same_column column other }
+{
+    column == other
+}
+
 impl Columns {
     // No columns.
     fn none() -> Columns
@@ -69,7 +76,7 @@ impl Columns {
     fn has(&self, column: Column) -> bool
         ensures { result ≡ has column (names self.now) }
     {
-        self.as_slice().contains(&column)
+        self.as_slice().iter().any(|other| same(*other, column))
     }
 
     // Whether each of some columns is among these.

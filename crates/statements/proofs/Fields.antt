@@ -1,5 +1,5 @@
 -- Fields behind semicolons, one after another.
-use Rattle.std.proofs.Common.{◌≡◌, ℕ, ◌+◌, ◌<◌, ◌≤◌, List, [], ◌∷◌, ◌++◌, map, length, get_or, take, drop, decimal, Option, sym, refl, ap, ◌∙◌, append_assoc, append-nil, arith, length-append}
+use Rattle.std.proofs.Common.{◌≡◌, ℕ, ◌+◌, ◌<◌, ◌≤◌, List, [], ◌∷◌, ◌++◌, map, length, get_or, take, drop, decimal, ℤ, Option, sym, refl, ap, ◌∙◌, append_assoc, append-nil, arith, length-append}
 use Rattle.std.proofs.lemmas.List.{take-append-drop, take_more, map-append}
 use Rattle.std.specs.Fmt.{signed_decimal}
 use Rattle.entries.specs.Cases.{case_number}
@@ -10,6 +10,22 @@ use Rattle.statements.specs.Printed.{fields, separated, column_values, values_af
 pub fields_more : (cs ds : List (List ℕ)) → fields (cs ++ ds) ≡ fields cs ++ fields ds
 fields_more [] ds = refl
 fields_more (c ∷ cs) ds = ap (λ l. 59 ∷ l) (ap (λ l. c ++ l) (fields_more cs ds) ∙ sym (append_assoc c (fields cs) (fields ds)))
+
+module _ (s : Statement) (n : ℕ) (vs : List ℤ) (number : n ≡ case_number s.case) (values : vs ≡ values_after_case s) where
+  -- the values of a statement: the number of its case, and what comes after it
+  values_parts : decimal n ++ fields (map signed_decimal vs) ≡ separated (map signed_decimal (column_values s))
+  values_parts = ap (λ m. decimal m ++ fields (map signed_decimal vs)) number ∙ ap (λ l. decimal (case_number s.case) ++ fields (map signed_decimal l)) values
+
+  -- behind what stands already
+  pub values_behind : (was : List ℕ) → was ++ decimal n ++ fields (map signed_decimal vs) ≡ was ++ separated (map signed_decimal (column_values s))
+  values_behind was = append_assoc was (decimal n) (fields (map signed_decimal vs)) ∙ ap (λ l. was ++ l) values_parts
+
+  -- and how long they are without that
+  pub length_values : length (decimal n) + length (fields (map signed_decimal vs)) ≡ length (separated (map signed_decimal (column_values s)))
+  length_values = sym (length-append (decimal n) (fields (map signed_decimal vs))) ∙ ap length values_parts
+
+-- the lemmas for values that are appended
+pub ruleset valuing = (length-append, values_behind, length_values)
 
 -- the text of a statement: the line of names, the values, the number that it is filed under, and a line feed
 pub text_parts : (s : Statement) (o : Option ℕ) → names_line o ++ separated (map signed_decimal (column_values s)) ++ fields (map signed_decimal (filed_value o)) ++ (10 ∷ []) ≡ text s o

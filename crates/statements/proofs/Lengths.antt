@@ -8,7 +8,8 @@ use Rattle.entries.specs.declared.case.Case.{Case}
 use Rattle.entries.specs.declared.case.Case.TheVariants.{Storage, ChargePoint, Both, BothMetered}
 use Rattle.statements.specs.declared.statement.Statement.{Statement}
 use Rattle.statements.specs.Statements.{Sound, Filing}
-use Rattle.statements.specs.Printed.{column_values, values_after_case, filed_value, fields, line, names_line, values_line, text, refusal_text}
+use Rattle.statements.specs.Printed.{column_values, values_after_case, filed_value, fields, separated, line, names_line, values_line, text, refusal_text}
+use Rattle.statements.proofs.Fields.{text_parts, length_text}
 
 -- the lengths of texts, each with a semicolon
 abbrev pub widths : List (List ℕ) → ℕ
@@ -60,12 +61,13 @@ pub record Fitting (s : Statement) : Type 0 where
   pub foreign : s.figures.foreign < 2 ^ 64
   pub loose : s.figures.loose < 2 ^ 64
 
--- the case and the values after it have few enough bytes for a text
-pub values_fit : (s : Statement) → Fitting s → length (decimal (case_number s.case)) + length (fields (map signed_decimal (values_after_case s))) ≤ 315
+-- the values have few enough bytes for a text
+pub values_fit : (s : Statement) → Fitting s → length (separated (map signed_decimal (column_values s))) ≤ 315
 values_fit s w =
     let r = s.figures in
     omega (
       arith,
+      length-append (decimal (case_number s.case)) (fields (map signed_decimal (values_after_case s))),
       length_fields (map signed_decimal (values_after_case s)),
       length-decimal-le 1 (case_number s.case) (omega arith) (omega (arith, case_below s.case)) (omega (arith, case_below s.case)),
       at_most_twenty s.year w.year,
@@ -125,6 +127,13 @@ module _ (s : Statement) (sound : Sound s) (narrow : Narrow s) where
   text_fits o h =
       let values : length (values_line s o) ≡ widths (map signed_decimal (column_values s)) + widths (map signed_decimal (filed_value o)) = length_line (signed_decimal (pos (case_number s.case))) (map signed_decimal (values_after_case s ++ filed_value o)) ∙ ap widths (map-append signed_decimal (column_values s) (filed_value o)) ∙ widths_more (map signed_decimal (column_values s)) (map signed_decimal (filed_value o)) in
       omega (arith, length-append (names_line o) (values_line s o), values, values_short, filed_short o h)
+
+  -- and so do its parts, one after another
+  pub parts_fit : (o : Option ℕ) → Filing o → length (names_line o) + length (separated (map signed_decimal (column_values s))) + length (fields (map signed_decimal (filed_value o))) + 1 ≤ 400
+  parts_fit o h = omega (arith, text_fits o h, length_text s o)
+
+-- the lemmas for a text that is put together from its parts
+pub ruleset joining = (length-append, parts_fit, text_parts)
 
 -- and so does that of a refusal
 pub refusal_fits : (n l p : ℕ) → n < 2 ^ 64 → l < 2 ^ 64 → p < 2 ^ 64 → length (refusal_text n l p) ≤ 400

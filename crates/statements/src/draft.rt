@@ -74,6 +74,6 @@ impl Draft {
     pub fn print(&self, buffer: &mut [u8]) -> Result<usize, Short>
         ensures { Prints (text self.now.statement None) buffer.old result buffer.new }
     {
-        print_text(&self.text(), buffer)
+        print_text(|| self.text(), buffer)
     }
 }

@@ -43,6 +43,6 @@ impl Filed {
     pub fn print(&self, buffer: &mut [u8]) -> Result<usize, Short>
         ensures { Prints (text self.now.statement (Some self.now.number)) buffer.old result buffer.new }
     {
-        print_text(&self.text(), buffer)
+        print_text(|| self.text(), buffer)
     }
 }

@@ -35,6 +35,6 @@ impl RefusalNote {
     pub fn print(self, buffer: &mut [u8]) -> Result<usize, Short>
         ensures { Prints (refusal_text self.number self.line self.place) buffer.old result buffer.new }
     {
-        print_text(&self.text(), buffer)
+        print_text(|| self.text(), buffer)
     }
 }

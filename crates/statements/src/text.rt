@@ -1,5 +1,5 @@
 //! The text of a statement: a line of names and a line of values; and that of a refusal.
-ghost use Rattle.std.specs.Prelude.{◌≡◌, ◌+◌, ◌≤◌, ◌∷◌, ◌++◌, map, length};
+ghost use Rattle.std.specs.Prelude.{◌≡◌, ℕ, List, ◌+◌, ◌≤◌, ◌∷◌, ◌++◌, map, length};
 ghost use Rattle.std.specs.Fmt.{signed_decimal};
 ghost use Rattle.arrayvec.specs.ArrayString.{array_string_len};
 ghost use Rattle.statements.specs.Statements.{Sound, Filing};
@@ -67,13 +67,22 @@ fn push_fields(text: &mut Text, values: &[i128])
     }
 }
 
+// Appends the values of a statement, separated by semicolons.
+#[tactic(auto, using(crate::proofs::Fields::valuing))]
+fn push_values(text: &mut Text, s: Statement)
+    requires { array_string_len text.old + length (separated (map signed_decimal (column_values s))) ≤ 400 }
+    ensures { text.new.bytes ≡ text.old.bytes ++ separated (map signed_decimal (column_values s)) }
+{
+    push_number(text, s.case.number());
+    push_fields(text, &values_of(s));
+}
+
 /// The values of a statement, separated by semicolons.
 pub(crate) fn values_text(s: Statement) -> Text
     ensures { result.bytes ≡ separated (map signed_decimal (column_values s)) }
 {
     let mut text = Text::new();
-    push_number(&mut text, s.case.number());
-    push_fields(&mut text, &values_of(s));
+    push_values(&mut text, s);
     text
 }
 
@@ -102,26 +111,29 @@ fn push_filed(text: &mut Text, filed: Option<u64>)
 }
 
 /// Both lines of a statement, with the number that it is filed under if it has one.
+#[tactic(auto, using(crate::proofs::Lengths::joining))]
 pub(crate) fn statement_text(s: Statement, filed: Option<u64>) -> Text
     requires sound { Sound s }
     requires filed { Filing filed }
     ensures { result.bytes ≡ text_of s filed }
 {
     let mut text = names_text(filed);
-    text.push_str(values_text(s).as_str());
+    push_values(&mut text, s);
     push_filed(&mut text, filed);
     text.push_str("\n");
     text
 }
 
-/// Prints a text at the buffer's front, and answers its length.
+/// Prints a text at the buffer's front, and answers its length. The text is made only where the buffer has room for any.
 // Into the caller's buffer: the box's print may lack room, but never memory.
-pub(crate) fn print_text(text: &Text, buffer: &mut [u8]) -> Result<usize, Short>
-    ensures { Prints text.now.bytes buffer.old result buffer.new }
+pub(crate) fn print_text<F: FnOnce() -> Text>(text: F, buffer: &mut [u8]) -> Result<usize, Short>
+    requires { F.pre text }
+    ensures { (bytes : List ℕ) → ((t : _) → F.post text t → t.bytes ≡ bytes) → Prints bytes buffer.old result buffer.new }
 {
     if buffer.len() < PRINT_LENGTH {
         return Err(Short);
     }
+    let text = text();
     let bytes = text.as_str().as_bytes();
     buffer[..bytes.len()].copy_from_slice(bytes);
     Ok(bytes.len())

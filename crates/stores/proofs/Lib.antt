@@ -2,3 +2,4 @@ pub mod Tallies
 pub mod Puts
 mod Places
 pub mod Slips
+pub mod OneEach

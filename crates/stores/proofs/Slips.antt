@@ -126,14 +126,14 @@ slips_push_at (s ∷ ss) w e k =
 pub slips_push : (ss : List Slip) (w : Slip) → on_slips ss w.quarter ≡ None → on_slips (ss ++ w ∷ []) ≡ updated (on_slips ss) w.quarter w.entry
 slips_push ss w e = fun_ext (slips_push_at ss w e)
 
-test_from_once : (n : ℕ) (ss : List Slip) → Once n ss → one_each n ss ≡ true
+pub test_from_once : (n : ℕ) (ss : List Slip) → Once n ss → one_each n ss ≡ true
 test_from_once n [] t = refl
 test_from_once n (s ∷ ss) t =
     and_from (nat_lt s.quarter n) (not (is_some (on_slips ss s.quarter)) && one_each n ss)
     (lt-ltb s.quarter n t.0)
     (and_from (not (is_some (on_slips ss s.quarter))) (one_each n ss) (ap (λ o. not (is_some o)) t.1) (test_from_once n ss t.2))
 
-once_push : (n : ℕ) (ss : List Slip) (w : Slip) → Once n ss → on_slips ss w.quarter ≡ None → w.quarter < n → Once n (ss ++ w ∷ [])
+pub once_push : (n : ℕ) (ss : List Slip) (w : Slip) → Once n ss → on_slips ss w.quarter ≡ None → w.quarter < n → Once n (ss ++ w ∷ [])
 once_push n [] w t e h = (h, refl, tt)
 once_push n (s ∷ ss) w t e h =
     let p = none_parts s ss w.quarter e in (

@@ -65,7 +65,7 @@ pub fn attend<S: Store, V: ValueList, A: Meter, B: Meter, C: Meter>(
 /// Makes a book over the store and attends every visit in turn. Each visit, accepted or refused, gets the answer that a sheet kept by hand gives it, the book
 /// ends as the sheet does, every draft adds up, and what stands at each quarter is the entry of the last accepted visit that entered it.
 /// Where there is no memory for the answers nothing is attended, and the store comes back.
-#[tactic(auto, using(crate::proofs::Chains::chain_none, crate::proofs::Chains::chain_turn))]
+#[tactic(auto, using(crate::proofs::Chains::chain_none, crate::proofs::Chains::chain_turn, book::proofs::Runs::chain_kept))]
 pub fn attend_all<S: Store, V: ValueList, A: Meter, B: Meter, C: Meter>(
     heap: Global,
     store: S,

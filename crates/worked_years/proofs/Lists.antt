@@ -5,6 +5,7 @@ use Rattle.std.proofs.lemmas.List.{take_more}
 use Rattle.entries.specs.declared.entry.Entry.{Entry}
 use Rattle.entries.specs.Pairs.{most_quarters, total}
 use Rattle.entries.proofs.Totals.{total_none, total_added}
+use Rattle.sums.specs.Sums.{with_entry}
 use Rattle.sums.specs.Year.{totals}
 use Rattle.sums.proofs.Years.{gather_alike}
 use Rattle.worked_years.specs.declared.years.Posting.{Posting}
@@ -30,6 +31,9 @@ year_of_list xs h = gather_alike (λ f. total f (pairs_of xs) most_quarters) (su
 sum_over_push : (xs : List Posting) (x : Posting) (f : Entry → ℕ) → sum_over (xs ++ (x ∷ [])) f ≡ sum_over xs f + f x.entry
 sum_over_push [] x f = refl
 sum_over_push (y ∷ ys) x f = omega (arith, sum_over_push ys x f)
+
+pub list_totals_push : (xs : List Posting) (x : Posting) → list_totals (xs ++ (x ∷ [])) ≡ with_entry (list_totals xs) x.entry
+list_totals_push xs x = gather_alike (sum_over (xs ++ (x ∷ []))) (λ f. sum_over xs f + f x.entry) (sum_over_push xs x)
 
 -- what stands in the place of a posting past the list's end
 abbrev pub blank : Posting

@@ -1,13 +1,11 @@
-use Rattle.std.proofs.Common.{◌≡◌, List, refl, ap, ◌∙◌}
-use Rattle.std.specs.List.{list_any}
+use Rattle.std.proofs.Common.{◌≡◌, refl, ◌∙◌}
 use Rattle.entries.specs.declared.readings.Mark.TheVariants.{Import, FeedIn, Drawn, Given, StorageDrawn, StorageGiven}
 use Rattle.lines.specs.declared.column.Column.{Column}
 use Rattle.lines.specs.declared.column.Column.TheVariants.{Quarter, Value, Reading}
 use Rattle.lines.specs.contracts.column.ColumnPartialEq.TheImpl.{ghosts}
-use Rattle.lines.specs.Columns.{names}
-use Rattle.lines.specs.Names.{same_column, has}
+use Rattle.lines.specs.Names.{same_column}
 use Rattle.lines.proofs.Among.{every}
-use Rattle.lines.proofs.columns.Columns.has.Goals as goal
+use Rattle.lines.proofs.names.same.Goals as goal
 
 -- two columns are told apart by their numbers
 eq_is : (d c : Column) → ghosts.eq d c ≡ same_column d c
@@ -20,8 +18,5 @@ eq_is (Reading Given) = every (λ c. ghosts.eq (Reading Given) c ≡ same_column
 eq_is (Reading StorageDrawn) = every (λ c. ghosts.eq (Reading StorageDrawn) c ≡ same_column (Reading StorageDrawn) c) refl refl refl refl refl refl refl refl
 eq_is (Reading StorageGiven) = every (λ c. ghosts.eq (Reading StorageGiven) c ≡ same_column (Reading StorageGiven) c) refl refl refl refl refl refl refl refl
 
-any_is : (c : Column) (ns : List Column) → list_any (λ d. ghosts.eq d c) ns ≡ has c ns
-any_is c ns i = list_any (λ d. eq_is d c i) ns
-
 pub returns : goal.returns
-returns c = c.contains.ensures.value ∙ ap (list_any (λ d. ghosts.eq d c.args.column)) c.as_slice.ensures ∙ any_is c.args.column (names c.args.self.now)
+returns c = c.eq.ensures ∙ eq_is c.args.column c.args.other
